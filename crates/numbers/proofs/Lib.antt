@@ -1,0 +1,4 @@
+pub mod Back
+pub mod Canonical
+pub mod Groups
+pub mod Written

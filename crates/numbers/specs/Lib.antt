@@ -1,0 +1,3 @@
+pub mod Reading
+pub mod Refusals
+pub mod Writing

@@ -1,0 +1,14 @@
+// Numbers in groups of seven bits, and the refusal that all layers share.
+mod fault;
+mod read;
+mod refusal;
+mod write;
+
+pub use fault::NumberFault;
+pub use read::Parsed;
+pub use read::read_number;
+pub use refusal::Refusal;
+pub use write::write_number;
+
+#[cfg(test)]
+mod tests;
