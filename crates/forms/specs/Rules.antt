@@ -1,0 +1,51 @@
+-- The rules of forms: what every form that can exist keeps.
+use mathlib.Core.Bool.{Bool, true, false, _&&_, cond}
+use mathlib.Core.List.{List, [], _∷_}
+use Prim.Native.Nat.{ℕ, _+_, _-_}
+use lib.Dec.{eqb, leb, ltb}
+use lib.ListN.{length, take, drop}
+use Rattle.std.specs.declared.result.Result.{Result}
+use Rattle.std.specs.declared.result.Result.the-variants.{Ok, Err}
+use Rattle.forms.specs.declared.fault.FormFault.{FormFault}
+use Rattle.forms.specs.declared.fault.FormFault.the-variants.{NotAForm}
+use Rattle.forms.specs.declared.row.Head.{Head}
+use Rattle.forms.specs.declared.row.Row.{Row}
+use Rattle.forms.specs.Rows.{rowOk, placedOk}
+
+-- A block has 1 to 64 rows, and a form 512 at most; `used` rows stand before the block.
+abbrev pub countOk : ℕ → ℕ → Bool
+countOk used count = leb 1 count && (leb count 64 && leb (used + count) 512)
+
+-- Each row keeps the rules, and the last one and no other is an ending.
+abbrev pub blockOk : ℕ → List Row → Bool
+blockOk last [] = true
+blockOk last (r ∷ rows) = (rowOk last r && placedOk (eqb (length rows) 0) r) && blockOk last rows
+
+-- The blocks of the counted lengths are there, after `used` rows, and keep the rules.
+abbrev pub blocksOk : ℕ → ℕ → List ℕ → List Row → Bool
+blocksOk last used [] rows = true
+blocksOk last used (count ∷ counts) rows =
+  (countOk used count && leb count (length rows))
+  && (blockOk last (take count rows)
+  && blocksOk last (used + count) counts (drop count rows))
+
+-- All numbers of a list are below a limit.
+abbrev pub allBelow : ℕ → List ℕ → Bool
+allBelow limit [] = true
+allBelow limit (x ∷ xs) = ltb x limit && allBelow limit xs
+
+-- A head has 1 to 64 blocks and at most 8 parameters, whose names are below 64; what is not used is 0.
+abbrev pub headOk : Head → Bool
+headOk h =
+  (leb 1 (h .blocks) && (leb (h .blocks) 64 && leb (h .params) 8))
+  && (allBelow 64 (take (h .params) (h .names))
+  && (allBelow 1 (drop (h .params) (h .names))
+  && allBelow 1 (drop (h .blocks) (h .counts))))
+
+-- A head and rows make a form. Rows beyond those counted are not looked at.
+abbrev pub formOk : List Row → Head → Bool
+formOk rows h = headOk h && blocksOk (h .blocks - 1) 0 (take (h .blocks) (h .counts)) rows
+
+-- Whether a form is filled with them, or refused.
+abbrev pub filled : List Row → Head → Result (Unit {0}) FormFault
+filled rows h = cond (formOk rows h) (Ok tt) (Err NotAForm)
