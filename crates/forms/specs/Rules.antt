@@ -34,13 +34,24 @@ abbrev pub allBelow : ℕ → List ℕ → Bool
 allBelow limit [] = true
 allBelow limit (x ∷ xs) = ltb x limit && allBelow limit xs
 
--- A head has 1 to 64 blocks and at most 8 parameters, whose names are below 64; what is not used is 0.
+-- A head counts 1 to 64 blocks and at most 8 parameters.
+abbrev pub countsOk : Head → Bool
+countsOk h = leb 1 (h .blocks) && (leb (h .blocks) 64 && leb (h .params) 8)
+
+-- There is a row count for each block, and a name for each parameter.
+abbrev pub complete : Head → Bool
+complete h = leb (h .blocks) (length (h .counts)) && leb (h .params) (length (h .names))
+
+-- The parameters' names are below 64, and what is not used is 0.
+abbrev pub entriesOk : Head → Bool
+entriesOk h =
+  (allBelow 64 (take (h .params) (h .names))
+  && allBelow 1 (drop (h .params) (h .names)))
+  && allBelow 1 (drop (h .blocks) (h .counts))
+
+-- A head keeps the rules.
 abbrev pub headOk : Head → Bool
-headOk h =
-  (leb 1 (h .blocks) && (leb (h .blocks) 64 && leb (h .params) 8))
-  && (allBelow 64 (take (h .params) (h .names))
-  && (allBelow 1 (drop (h .params) (h .names))
-  && allBelow 1 (drop (h .blocks) (h .counts))))
+headOk h = countsOk h && (complete h && entriesOk h)
 
 -- A head and rows make a form. Rows beyond those counted are not looked at.
 abbrev pub formOk : List Row → Head → Bool

@@ -29,7 +29,9 @@ pub fn read_form(bytes: &[u8], rows: &mut [Row], head: &mut Head) -> Result<(), 
     if counts.next < bytes.len() {
         return Err(FormFault::LeftOver(counts.next));
     }
-    *head = Head { blocks: blocks.value, params: params.value, names: names.value, counts: counts.value };
+    let Parsed { value: names, .. } = names;
+    let Parsed { value: counts, .. } = counts;
+    *head = Head { blocks: blocks.value, params: params.value, names, counts };
     Ok(())
 }
 
