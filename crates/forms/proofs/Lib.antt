@@ -4,5 +4,7 @@ pub mod Checks
 pub mod Cuts
 pub mod Names
 pub mod Outcomes
+pub mod Sound
 pub mod Stored
 pub mod Wells
+pub mod Whole

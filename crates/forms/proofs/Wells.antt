@@ -29,7 +29,7 @@ number-up-to (Ok q) highest at p e = grind (arith, tells)
 number-up-to (Err f) highest at p e = absurd (grind arith)
 
 -- a field that was read stays within its limit
-field-within : (highest : Option ℕ) (bytes : List ℕ) (at : ℕ) (p : Parsed ℕ) → fieldAt highest bytes at ≡ Ok p → within highest (p .value) ≡ true
+pub field-within : (highest : Option ℕ) (bytes : List ℕ) (at : ℕ) (p : Parsed ℕ) → fieldAt highest bytes at ≡ Ok p → within highest (p .value) ≡ true
 field-within None bytes at p e = let z : 0 ≡ p .value = grind arith in rw (sym z) refl
 field-within (Some highest) bytes at p e = number-up-to (number bytes at) highest at p e
 

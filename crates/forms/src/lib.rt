@@ -15,3 +15,6 @@ pub use row::Head;
 pub use row::Row;
 pub use row::RowDebug;
 pub use row::RowPartialEq;
+
+#[cfg(test)]
+mod tests;

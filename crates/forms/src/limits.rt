@@ -7,7 +7,7 @@ use crate::row::Row;
 // The highest number of each field, or none where the kind lacks it; and whether there is a constant,
 // which may be any word.
 #[derive(Clone, Copy)]
-pub struct Limits {
+pub(crate) struct Limits {
     pub o: Option<u8>,
     pub d: Option<u8>,
     pub a: Option<u8>,
@@ -22,7 +22,7 @@ const NONE: Limits = Limits { o: None, d: None, a: None, b: None, k: None, c: fa
 const NAME: Option<u8> = Some(63);
 
 // The fields of a kind, in a form whose last block is `last`.
-pub fn limits_of(kind: u8, last: u8) -> Limits
+pub(crate) fn limits_of(kind: u8, last: u8) -> Limits
     ensures { λ r. ⌜ r ≡ limitsOf kind last ⌝ }
 {
     match kind {
@@ -71,14 +71,14 @@ fn fields_ok(row: &Row, l: &Limits) -> bool
 }
 
 // Whether a row keeps the rules in a form whose last block is `last`.
-pub fn row_ok(row: &Row, last: u8) -> bool
+pub(crate) fn row_ok(row: &Row, last: u8) -> bool
     ensures { λ r. ⌜ r ≡ rowOk last (now (row .entry)) ⌝ }
 {
     row.kind <= 10 && fields_ok(row, &limits_of(row.kind, last))
 }
 
 // Whether a row may stand where it does: the last of a block is an ending, and no other is.
-pub fn placed(row: &Row, last: bool) -> bool
+pub(crate) fn placed(row: &Row, last: bool) -> bool
     ensures { λ r. ⌜ r ≡ placedOk last (now (row .entry)) ⌝ }
 {
     if last { row.kind >= 7 } else { row.kind < 7 }

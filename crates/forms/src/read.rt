@@ -22,16 +22,16 @@ pub fn read_form(bytes: &[u8], rows: &mut [Row], head: &mut Head) -> Result<(), 
     ensures head { λ _. ⌜ now (head .exit) ≡ headAfter (reading (now (bytes .entry)) (length (now (rows .entry))) .outcome) (now (head .entry)) ⌝ }
     ensures fills { λ _. ⌜ Fills (reading (now (bytes .entry)) (length (now (rows .entry))) .outcome) (now (rows .exit)) (now (head .exit)) ⌝ }
 {
-    let blocks = count_in(bytes, 0, 1, 64)?;
-    let params = count_in(bytes, blocks.next, 0, 8)?;
-    let names = names_at(bytes, params.next, params.value)?;
-    let counts = blocks_at(bytes, names.next, blocks.value, rows)?;
+    let block_count = count_in(bytes, 0, 1, 64)?;
+    let param_count = count_in(bytes, block_count.next, 0, 8)?;
+    let names = names_at(bytes, param_count.next, param_count.value)?;
+    let counts = blocks_at(bytes, names.next, block_count.value, rows)?;
     if counts.next < bytes.len() {
         return Err(FormFault::LeftOver(counts.next));
     }
     let Parsed { value: names, .. } = names;
     let Parsed { value: counts, .. } = counts;
-    *head = Head { blocks: blocks.value, params: params.value, names, counts };
+    *head = Head { blocks: block_count.value, params: param_count.value, names, counts };
     Ok(())
 }
 
