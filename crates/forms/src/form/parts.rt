@@ -29,11 +29,12 @@ impl<'r, 'h> Form<'r, 'h> {
     pub fn block(&self, b: u8) -> &'r [Row]
         ensures { λ r. ⌜ now r ≡ getD (code (now (self .entry)) .blocks) b [] ⌝ }
     {
-        if b >= self.head.blocks {
+        let head = self.head;
+        if b >= head.blocks {
             return &[];
         }
         let start = self.rows_before(b);
-        let count = self.head.counts[b as usize] as usize;
+        let count = head.counts[b as usize] as usize;
         &self.rows[start..start + count]
     }
 
@@ -41,7 +42,8 @@ impl<'r, 'h> Form<'r, 'h> {
     pub fn row_count(&self) -> usize
         ensures { λ r. ⌜ r ≡ rowCount (code (now (self .entry))) ⌝ }
     {
-        self.rows_before(self.head.blocks)
+        let head = self.head;
+        self.rows_before(head.blocks)
     }
 
     // How many rows stand before a block.

@@ -6,8 +6,8 @@ use lib.ListN.{length, getD, take, drop}
 use Rattle.forms.proofs.Cuts.{block-there, block-is, no-block}
 use Rattle.forms.proofs.form.Form.block.Needs as need
 
-pub returns-then-b-self : need.returns-then-b-self
-returns-then-b-self c = no-block (c .args .self .now .rows .now) (c .args .self .now .head .now) (c .args .self .now .sound) (c .args .b) (omega arith)
+pub returns-then-b-head : need.returns-then-b-head
+returns-then-b-head c = no-block (c .args .self .now .rows .now) (c .args .self .now .head .now) (c .args .self .now .sound) (c .args .b) (omega arith)
 
 there : (c : need.After-result-2·1) → c .rows-before-start .result + getD (c .args .self .now .head .now .counts) (c .args .b) 0 ≤ length (c .args .self .now .rows .now)
 there c = omega (arith, block-there (c .args .self .now .rows .now) (c .args .self .now .head .now) (c .args .self .now .sound) (c .args .b) (omega arith))
