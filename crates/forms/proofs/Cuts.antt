@@ -13,9 +13,8 @@ use Rattle.std.proofs.shelf.Ways.{tells}
 use Rattle.std.specs.shelf.Lists.{sum}
 use Rattle.forms.specs.declared.row.Head.{Head}
 use Rattle.forms.specs.declared.row.Row.{Row}
-use Rattle.forms.specs.Code.{Code, cut, codeOf}
+use Rattle.forms.specs.Code.{Code, cut, codeOf, rowsOf}
 use Rattle.forms.specs.Rules.{blockOk, countOk, blocksOk, countsOk, complete, entriesOk, headOk, formOk}
-use Rattle.forms.specs.View.{rowsOf}
 
 pub length-cut : (counts : List ℕ) (rows : List Row) → length (cut counts rows) ≡ length counts
 length-cut [] rows = refl

@@ -1,6 +1,6 @@
 -- The code of a form: what a head and rows say.
 use mathlib.Core.List.{List, [], _∷_, map}
-use Prim.Native.Nat.{ℕ}
+use Prim.Native.Nat.{ℕ, _+_}
 use lib.ListN.{length, take, drop, replicate}
 use Rattle.forms.specs.declared.row.Head.{Head}
 use Rattle.forms.specs.declared.row.Row.{Row}
@@ -21,6 +21,15 @@ abbrev pub codeOf : List Row → Head → Code
 codeOf rows head = record {
   params = take (head .params) (head .names);
   blocks = cut (take (head .blocks) (head .counts)) rows }
+
+-- The rows of all blocks.
+abbrev pub rowsOf : List (List Row) → ℕ
+rowsOf [] = 0
+rowsOf (block ∷ blocks) = length block + rowsOf blocks
+
+-- How many rows a code has.
+abbrev pub rowCount : Code → ℕ
+rowCount c = rowsOf (c .blocks)
 
 -- The head of a code: what is not used is 0.
 abbrev pub headOf : Code → Head

@@ -1,9 +1,7 @@
 -- What a form, the view, stands for.
 use mathlib.Core.Path.{_≡_}
-use mathlib.Core.List.{List, [], _∷_}
-use Prim.Native.Nat.{ℕ, _+_}
+use mathlib.Core.List.{List}
 use denote.Ref.{RefT}
-use lib.ListN.{length}
 use Rattle.std.specs.Results.{Cases}
 use Rattle.std.specs.declared.result.Result.{Result}
 use Rattle.forms.specs.declared.fault.FormFault.{FormFault}
@@ -15,15 +13,6 @@ use Rattle.forms.specs.Code.{Code, codeOf}
 -- The code of a form: what its head says of its rows.
 abbrev pub code : Form → Code
 code form = codeOf (form .rows .now) (form .head .now)
-
--- The rows of all blocks.
-abbrev pub rowsOf : List (List Row) → ℕ
-rowsOf [] = 0
-rowsOf (block ∷ blocks) = length block + rowsOf blocks
-
--- How many rows a code has.
-abbrev pub rowCount : Code → ℕ
-rowCount c = rowsOf (c .blocks)
 
 -- A form that was filled borrows just the rows and the head that were lent; a refused one is as it was.
 abbrev pub Holds : Result (Unit {0}) FormFault → Form → Form → RefT (List Row) → RefT Head → Type 0
