@@ -1,0 +1,5 @@
+pub mod Cuts
+pub mod Digits
+pub mod Titles
+pub mod Labels
+pub mod Storage
