@@ -1,4 +1,4 @@
--- A loop that counts the front of a list whose elements pass a test. Assumes nothing.
+-- A loop that counts the front of a list whose elements pass a test.
 use mathlib.Core.Path.{_≡_}
 use mathlib.Core.Bool.{Bool, true, false}
 use mathlib.Core.List.{List}

@@ -1,4 +1,4 @@
--- A name is text. Assumes nothing.
+-- A name is text.
 use mathlib.Core.Path.{_≡_, refl, sym, ap, _∙_}
 use mathlib.Core.Bool.{Bool, true, false, cond}
 use mathlib.Core.List.{List, [], _∷_}
@@ -15,7 +15,7 @@ use Rattle.std.specs.Slices.{found}
 use Rattle.std.specs.Text.{Utf8}
 use Rattle.std.specs.Vec.{Every}
 use Rattle.std.specs.shelf.Lists.{leading}
-use Rattle.agree.specs.Titles.{letter}
+use Rattle.agree.specs.Classes.{letter}
 
 low : (b : ℕ) → letter b ≡ true → b < 128
 low b e = grind (arith, tells)

@@ -1,4 +1,4 @@
--- A loop that reads digits. Assumes nothing.
+-- A loop that reads digits.
 use mathlib.Core.Path.{_≡_, refl, sym, ap, _∙_}
 use mathlib.Core.Bool.{Bool, true, false, cond}
 use mathlib.Core.List.{List, [], _∷_, _++_, append-assoc, append-nil}

@@ -1,4 +1,4 @@
--- What digits stand for. Assumes nothing.
+-- What digits stand for.
 use mathlib.Core.Bool.{cond, _&&_}
 use mathlib.Core.List.{List, [], _∷_, _++_}
 use mathlib.Core.Path.{_≡_}

@@ -1,5 +1,4 @@
-pub mod Cuts
+pub mod Classes
 pub mod Digits
-pub mod Titles
 pub mod Labels
 pub mod Storage

@@ -1,4 +1,4 @@
--- How many rows were stored. Assumes nothing.
+-- How many rows were stored.
 use mathlib.Core.Bool.{not}
 use mathlib.Core.List.{List}
 use Prim.Native.Nat.{ℕ}
@@ -6,6 +6,6 @@ use lib.Dec.{eqb}
 use Rattle.std.specs.shelf.Lists.{leading}
 use Rattle.forms.specs.declared.Row.{Row}
 
--- how many rows at the front are of a kind that a row can have
+-- How many rows at the front are of a kind that a row can have.
 abbrev pub stored : List Row → ℕ
 stored rows = leading (λ r. not (eqb (r .kind) 255)) rows

@@ -1,5 +1,6 @@
 // Carries out job files over the library of forms.
 mod arguments;
+mod classes;
 mod commands;
 mod demo;
 mod faults;
