@@ -1,6 +1,8 @@
 pub mod Blocks
 pub mod Buffers
+pub mod Canonical
 pub mod Checks
+pub mod Complete
 pub mod Cuts
 pub mod Names
 pub mod Outcomes

@@ -5,7 +5,7 @@ use mathlib.Core.List.{List, [], _∷_, map}
 use Prim.Native.Nat.{ℕ, _+_, _-_, _≤_, _<_}
 use native.Mathlib.Omega.{arith}
 use lib.Dec.{ltb}
-use lib.ListN.{length, replicate}
+use lib.ListN.{length, getD, replicate}
 use Rattle.std.proofs.shelf.Tests.{lt-ltb, le-ltb}
 use Rattle.std.specs.declared.result.Result.{Result}
 use Rattle.std.specs.declared.result.Result.the-variants.{Ok, Err}
@@ -17,6 +17,9 @@ use Rattle.forms.specs.declared.row.Row.{Row}
 use Rattle.forms.specs.Buffers.{over, onto, lengths}
 use Rattle.forms.specs.Code.{Code, headOf}
 use Rattle.forms.specs.Reading.{Reading, andThen, ending, goOn, countIn, namesAt, blocksAt, closed, reading, told, headAfter, Fills}
+use Rattle.forms.specs.Writing.{IsWritten, Accepts}
+use Rattle.forms.proofs.Canonical.{is-written}
+use Rattle.forms.proofs.Complete.{accepts-all}
 use Rattle.forms.proofs.Sound.{names-many, blocks-many, fills}
 
 module _ {X : Type 0} where
@@ -41,6 +44,13 @@ module _ {X : Type 0} where
 same-head : {b b′ p p′ : ℕ} {ns ns′ cs cs′ : List ℕ} → b ≡ b′ → p ≡ p′ → ns ≡ ns′ → cs ≡ cs′
   → _≡_ {A = Head} (record { blocks = b; params = p; names = ns; counts = cs }) (record { blocks = b′; params = p′; names = ns′; counts = cs′ })
 same-head eb ep en ec = cc
+
+-- a count is refused
+pub block-count-refused : (bytes : List ℕ) (room : ℕ) (e : FormFault) → Err e ≡ countIn 1 64 bytes 0 → reading bytes room ≡ ending (Err e)
+block-count-refused bytes room e h = rw (sym h) refl
+
+pub param-count-refused : (bytes : List ℕ) (room : ℕ) (n : Parsed ℕ) → Ok n ≡ countIn 1 64 bytes 0 → (e : FormFault) → Err e ≡ countIn 0 8 bytes (n .next) → reading bytes room ≡ ending (Err e)
+param-count-refused bytes room n en e h = rw (sym en) (rw (sym h) refl)
 
 -- the counts are read
 module _ (bytes : List ℕ) (room : ℕ) (n : Parsed ℕ) (en : Ok n ≡ countIn 1 64 bytes 0) (m : Parsed ℕ) (em : Ok m ≡ countIn 0 8 bytes (n .next)) where
@@ -104,20 +114,24 @@ module _ (bytes : List ℕ) (room : ℕ) (n : Parsed ℕ) (en : Ok n ≡ countIn
           (ap (λ (p : Parsed (List ℕ)). p .value) (given .2))
           (ap (λ (p : Parsed (List ℕ)). p .value) (long .2) ∙ ap (λ (p : Parsed (List ℕ)). over 0 (p .value) (replicate 64 0)) (blocked .2)))
 
--- what a call leaves: what it answers, the buffer and the head
+-- what a call leaves: what it answers, the buffer and the head; and the laws of reading
 pub record Left (bytes : List ℕ) (lent : List Row) (old : Head) (answer : Result (Unit {0}) FormFault) (kept : List Row) (new : Head) : Type 0 where
   pub result : answer ≡ told (reading bytes (length lent) .outcome)
   pub rows : kept ≡ over 0 (reading bytes (length lent) .stored) lent
   pub head : new ≡ headAfter (reading bytes (length lent) .outcome) old
   pub filled : Fills (reading bytes (length lent) .outcome) kept new
+  pub written : IsWritten (reading bytes (length lent) .outcome) bytes
+  pub accepts : Accepts bytes (length lent)
 
-module _ (bytes : List ℕ) (rows : List Row) (head : Head) (stored rows′ : List Row) (w : rows′ ≡ over 0 stored rows) where
+module _ (bytes : List ℕ) (f : (i : ℕ) → getD bytes i 0 < 256) (rows : List Row) (head : Head) (stored rows′ : List Row) (w : rows′ ≡ over 0 stored rows) where
   pub refuses : (e : FormFault) → reading bytes (length rows) ≡ record { stored = stored; outcome = Err e } → Left bytes rows head (Err e) rows′ head
   refuses e q = record {
     result = rw q refl;
     rows = w ∙ rw q refl;
     head = rw q refl;
-    filled = rw q tt }
+    filled = rw q tt;
+    written = is-written bytes f (length rows);
+    accepts = accepts-all bytes (length rows) }
 
   pub accepts : (code : Code) → reading bytes (length rows) ≡ record { stored = stored; outcome = Ok code } → (head′ : Head) → head′ ≡ headOf code
     → Left bytes rows head (Ok tt) rows′ head′
@@ -128,4 +142,6 @@ module _ (bytes : List ℕ) (rows : List Row) (head : Head) (stored rows′ : Li
       result = rw q refl;
       rows = s;
       head = h ∙ rw q refl;
-      filled = rw (o, s, h) (fills bytes rows code o) }
+      filled = rw (o, s, h) (fills bytes rows code o);
+      written = is-written bytes f (length rows);
+      accepts = accepts-all bytes (length rows) }

@@ -5,3 +5,4 @@ pub mod Refusals
 pub mod Rows
 pub mod Rules
 pub mod View
+pub mod Writing

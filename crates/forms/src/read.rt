@@ -4,6 +4,7 @@ ghost use Prim.Native.Nat.{_-_, _≤_};
 ghost use lib.ListN.{length, replicate};
 ghost use Rattle.forms.specs.Buffers.{over, onto, lengths};
 ghost use Rattle.forms.specs.Reading.{fieldAt, wordAt, fieldsAt, rowAt, countIn, rowCountAt, namesAt, rowsAt, blocksAt, reading, told, headAfter, Fills};
+ghost use Rattle.forms.specs.Writing.{IsWritten, Accepts};
 use crate::fault::FormFault;
 use crate::fault::FormFromNumber;
 use crate::limits::Limits;
@@ -21,6 +22,8 @@ pub fn read_form(bytes: &[u8], rows: &mut [Row], head: &mut Head) -> Result<(), 
     ensures rows { λ _. ⌜ now (rows .exit) ≡ over 0 (reading (now (bytes .entry)) (length (now (rows .entry))) .stored) (now (rows .entry)) ⌝ }
     ensures head { λ _. ⌜ now (head .exit) ≡ headAfter (reading (now (bytes .entry)) (length (now (rows .entry))) .outcome) (now (head .entry)) ⌝ }
     ensures fills { λ _. ⌜ Fills (reading (now (bytes .entry)) (length (now (rows .entry))) .outcome) (now (rows .exit)) (now (head .exit)) ⌝ }
+    ensures written { λ _. ⌜ IsWritten (reading (now (bytes .entry)) (length (now (rows .entry))) .outcome) (now (bytes .entry)) ⌝ }
+    ensures accepts { λ _. ⌜ Accepts (now (bytes .entry)) (length (now (rows .entry))) ⌝ }
 {
     let block_count = count_in(bytes, 0, 1, 64)?;
     let param_count = count_in(bytes, block_count.next, 0, 8)?;

@@ -71,17 +71,23 @@ back (suc k) at next value scale m rest h f z =
       ∙ ap (λ (y : ℕ). said (value + m * scale) y) n)
     (cases-lt m 128)
 
--- a number appended to what stands before it
-pub reads-back : (n : ℕ) → n < 2 ^ 64 → (front : List ℕ) → ReadsBack n (length front) (front ++ written n)
+-- a number that stands at a place
+pub reads-at : (n : ℕ) → n < 2 ^ 64 → (bytes : List ℕ) (at : ℕ) (rest : List ℕ) → drop at bytes ≡ written n ++ rest
+  → number bytes at ≡ Ok (record { value = n; next = at + length (written n) })
 unfolding written said
-reads-back n h front rest =
+reads-at n h bytes at rest e =
   let b : n < 2 ^ (7 * 10) = omega arith in
   let o : 0 + n * 1 ≡ n = omega arith in
-  let l : length front + length (writtenIn 10 n) ≡ length (front ++ writtenIn 10 n) = sym (length-append front (writtenIn 10 n)) in
-  ap (λ (x : List ℕ). groups 10 (length front) (length front) 0 1 (drop (length front) x)) (append-assoc front (writtenIn 10 n) rest)
-  ∙ ap (groups 10 (length front) (length front) 0 1) (drop-at front (writtenIn 10 n ++ rest) (length front) refl)
-  ∙ back 9 (length front) (length front) 0 1 n rest b (omega arith) (λ _. omega arith)
-  ∙ ap (λ (x : ℕ). said x (length front + length (writtenIn 10 n))) o
+  ap (groups 10 at at 0 1) e
+  ∙ back 9 at at 0 1 n rest b (omega arith) (λ _. omega arith)
+  ∙ ap (λ (x : ℕ). said x (at + length (writtenIn 10 n))) o
+
+-- a number appended to what stands before it
+pub reads-back : (n : ℕ) → n < 2 ^ 64 → (front : List ℕ) → ReadsBack n (length front) (front ++ written n)
+unfolding said
+reads-back n h front rest =
+  let l : length front + length (written n) ≡ length (front ++ written n) = sym (length-append front (written n)) in
+  reads-at n h ((front ++ written n) ++ rest) (length front) rest (ap (drop (length front)) (append-assoc front (written n) rest) ∙ drop-at front (written n ++ rest) (length front) refl)
   ∙ ap (said n) l
 
 -- the same of what a call that may fail leaves
