@@ -169,8 +169,8 @@ module _ (bytes : List ℕ) (f : (i : ℕ) → getD bytes i 0 < 256) where
   parts-span one two three four n m names blocks ln lm a b c d = rw (ln, lm) (spans-then a (spans-then b (spans-then c d)))
 
   -- the bytes of a code that was read
-  read-written : (room : ℕ) (code : Code) → reading bytes room .outcome ≡ Ok code → bytes ≡ codeBytes code
-  read-written room =
+  pub is-written : (room : ℕ) → IsWritten bytes room
+  is-written room =
     let P : Code → Type 0 = λ code. bytes ≡ codeBytes code in
     go-on-all (λ _. P) (countIn 1 64 bytes 0) _ (λ n en.
     go-on-all (λ _. P) (countIn 0 8 bytes (n .next)) _ (λ m em.
@@ -187,12 +187,3 @@ module _ (bytes : List ℕ) (f : (i : ℕ) → getD bytes i 0 < 256) where
           (names-spans (m .value) (m .next) names es)
           (blocks-spans (n .value) (n .value - 1) room (names .next) 0 (omega arith) p ep))
         none)))))
-
-  -- whatever comes out, of which a refusal says nothing
-  whatever : (room : ℕ) (r : Result Code FormFault) → reading bytes room .outcome ≡ r → IsWritten r bytes
-  whatever room (Ok code) e = read-written room code e
-  whatever room (Err x) e = tt
-
-  -- the law of reading that the contract cites
-  pub is-written : (room : ℕ) → IsWritten (reading bytes room .outcome) bytes
-  is-written room = whatever room (reading bytes room .outcome) refl

@@ -17,10 +17,11 @@ use Rattle.numbers.specs.declared.fault.NumberFault.{NumberFault}
 use Rattle.numbers.specs.declared.read.Parsed.{Parsed}
 use Rattle.forms.specs.declared.fault.FormFault.{FormFault}
 use Rattle.forms.specs.declared.fault.FormFault.the-variants.{Count, LeftOver}
+use Rattle.forms.specs.declared.row.Head.{Head}
 use Rattle.forms.specs.declared.row.Row.{Row}
 use Rattle.forms.specs.Buffers.{over}
 use Rattle.forms.specs.Code.{Code, cut, codeOf, headOf}
-use Rattle.forms.specs.Reading.{Reading, lifted, andThen, before, fieldAt, countIn, rowCountAt, namesAt, goOn, rowsAt, blockThen, blocksAt, closed, reading, Fills}
+use Rattle.forms.specs.Reading.{Reading, lifted, andThen, before, fieldAt, countIn, rowCountAt, namesAt, goOn, rowsAt, blockThen, blocksAt, closed, reading, rowsAfter, headAfter, Fills}
 use Rattle.forms.specs.Rules.{countOk, blockOk, blocksOk, allBelow, countsOk, complete, entriesOk, headOk, formOk, filled}
 use Rattle.forms.proofs.Buffers.{length-over, over-start}
 use Rattle.forms.proofs.Outcomes.{and-then-all, go-on-all, before-all, block-then-all}
@@ -185,12 +186,11 @@ module _ (room : ℕ) (rows stored : List Row) (code : Code) (s : Read room stor
     ap (λ (x : List ℕ). record { params = x; blocks = codeOf (over 0 stored rows) (headOf code) .blocks }) p
     ∙ ap (λ (x : List (List Row)). record { params = code .params; blocks = x }) b
 
--- a reading that was not refused fills a form
-pub fills : (bytes : List ℕ) (rows : List Row) (code : Code) → reading bytes (length rows) .outcome ≡ Ok code
-  → Fills (Ok code) (over 0 (reading bytes (length rows) .stored) rows) (headOf code)
-fills bytes rows code e =
+-- a form that was read is filled
+pub fills : (bytes : List ℕ) (rows : List Row) (old : Head) → Fills bytes (length rows) (rowsAfter bytes rows) (headAfter bytes rows old)
+fills bytes rows old code e =
   let s = read-sound bytes (length rows) code e in
-  (rw (form-good (length rows) rows (reading bytes (length rows) .stored) code s refl) refl, code-back (length rows) rows (reading bytes (length rows) .stored) code s refl)
+  rw e (rw (form-good (length rows) rows (reading bytes (length rows) .stored) code s refl) refl, code-back (length rows) rows (reading bytes (length rows) .stored) code s refl)
 
 -- as many names and blocks as were counted
 pub names-many : (left : ℕ) (bytes : List ℕ) (at : ℕ) (p : Parsed (List ℕ)) → namesAt left bytes at ≡ Ok p → length (p .value) ≡ left

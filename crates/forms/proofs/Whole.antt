@@ -16,7 +16,7 @@ use Rattle.forms.specs.declared.row.Head.{Head}
 use Rattle.forms.specs.declared.row.Row.{Row}
 use Rattle.forms.specs.Buffers.{over, onto, lengths}
 use Rattle.forms.specs.Code.{Code, headOf}
-use Rattle.forms.specs.Reading.{Reading, andThen, ending, goOn, countIn, namesAt, blocksAt, closed, reading, told, headAfter, Fills}
+use Rattle.forms.specs.Reading.{Reading, andThen, ending, goOn, countIn, namesAt, blocksAt, closed, reading, answer, rowsAfter, headAfter, Fills}
 use Rattle.forms.specs.Writing.{IsWritten, Accepts}
 use Rattle.forms.proofs.Canonical.{is-written}
 use Rattle.forms.proofs.Complete.{accepts-all}
@@ -41,6 +41,11 @@ module _ {X : Type 0} where
   lengths-ok (Ok q) p h = (q, refl, grind arith)
   lengths-ok (Err f) p h = absurd (grind arith)
 
+-- what was refused did not come out
+refused-not-ok : (e : FormFault) (code : Code) → _≡_ {A = Result Code FormFault} (Err e) (Ok code) → ⊥
+refused-not-ok e code h = grind arith
+
+-- heads with equal parts
 same-head : {b b′ p p′ : ℕ} {ns ns′ cs cs′ : List ℕ} → b ≡ b′ → p ≡ p′ → ns ≡ ns′ → cs ≡ cs′
   → _≡_ {A = Head} (record { blocks = b; params = p; names = ns; counts = cs }) (record { blocks = b′; params = p′; names = ns′; counts = cs′ })
 same-head eb ep en ec = cc
@@ -115,33 +120,35 @@ module _ (bytes : List ℕ) (room : ℕ) (n : Parsed ℕ) (en : Ok n ≡ countIn
           (ap (λ (p : Parsed (List ℕ)). p .value) (long .2) ∙ ap (λ (p : Parsed (List ℕ)). over 0 (p .value) (replicate 64 0)) (blocked .2)))
 
 -- what a call leaves: what it answers, the buffer and the head; and the laws of reading
-pub record Left (bytes : List ℕ) (lent : List Row) (old : Head) (answer : Result (Unit {0}) FormFault) (kept : List Row) (new : Head) : Type 0 where
-  pub result : answer ≡ told (reading bytes (length lent) .outcome)
-  pub rows : kept ≡ over 0 (reading bytes (length lent) .stored) lent
-  pub head : new ≡ headAfter (reading bytes (length lent) .outcome) old
-  pub filled : Fills (reading bytes (length lent) .outcome) kept new
-  pub written : IsWritten (reading bytes (length lent) .outcome) bytes
-  pub accepts : Accepts bytes (length lent)
+pub record Left (bytes : List ℕ) (lent : List Row) (old : Head) (said : Result (Unit {0}) FormFault) (kept : List Row) (new : Head) : Type 0 where
+  pub result : said ≡ answer bytes lent
+  pub rows : kept ≡ rowsAfter bytes lent
+  pub head : new ≡ headAfter bytes lent old
+  pub filled : Fills bytes (length lent) kept new
+  pub written : IsWritten bytes (length lent)
+  pub accepted : Accepts bytes (length lent)
 
-module _ (bytes : List ℕ) (f : (i : ℕ) → getD bytes i 0 < 256) (rows : List Row) (head : Head) (stored rows′ : List Row) (w : rows′ ≡ over 0 stored rows) where
-  pub refuses : (e : FormFault) → reading bytes (length rows) ≡ record { stored = stored; outcome = Err e } → Left bytes rows head (Err e) rows′ head
-  refuses e q = record {
-    result = rw q refl;
-    rows = w ∙ rw q refl;
-    head = rw q refl;
-    filled = rw q tt;
-    written = is-written bytes f (length rows);
-    accepts = accepts-all bytes (length rows) }
-
-  pub accepts : (code : Code) → reading bytes (length rows) ≡ record { stored = stored; outcome = Ok code } → (head′ : Head) → head′ ≡ headOf code
-    → Left bytes rows head (Ok tt) rows′ head′
-  accepts code q head′ h =
-    let o : reading bytes (length rows) .outcome ≡ Ok code = ap (λ (r : Reading Code). r .outcome) q in
-    let s : rows′ ≡ over 0 (reading bytes (length rows) .stored) rows = w ∙ rw q refl in
+module _ (bytes : List ℕ) (f : (i : ℕ) → getD bytes i 0 < 256) (lent : List Row) (old : Head) (stored kept : List Row) (w : kept ≡ over 0 stored lent) where
+  pub refuses : (e : FormFault) → reading bytes (length lent) ≡ record { stored = stored; outcome = Err e } → Left bytes lent old (Err e) kept old
+  refuses e q =
+    let s : kept ≡ rowsAfter bytes lent = w ∙ rw q refl in
+    let h : old ≡ headAfter bytes lent old = rw q refl in
     record {
       result = rw q refl;
       rows = s;
-      head = h ∙ rw q refl;
-      filled = rw (o, s, h) (fills bytes rows code o);
-      written = is-written bytes f (length rows);
-      accepts = accepts-all bytes (length rows) }
+      head = h;
+      filled = λ code o. absurd (refused-not-ok e code (sym (ap (λ (r : Reading Code). r .outcome) q) ∙ o));
+      written = is-written bytes f (length lent);
+      accepted = accepts-all bytes (length lent) }
+
+  pub accepts : (code : Code) → reading bytes (length lent) ≡ record { stored = stored; outcome = Ok code } → (new : Head) → new ≡ headOf code → Left bytes lent old (Ok tt) kept new
+  accepts code q new h =
+    let s : kept ≡ rowsAfter bytes lent = w ∙ rw q refl in
+    let n : new ≡ headAfter bytes lent old = h ∙ rw q refl in
+    record {
+      result = rw q refl;
+      rows = s;
+      head = n;
+      filled = rw (s, n) (fills bytes lent old);
+      written = is-written bytes f (length lent);
+      accepted = accepts-all bytes (length lent) }

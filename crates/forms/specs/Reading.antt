@@ -17,6 +17,7 @@ use Rattle.forms.specs.declared.fault.FormFault.the-variants.{Number, Count, R
 use Rattle.forms.specs.declared.limits.Limits.{Limits}
 use Rattle.forms.specs.declared.row.Head.{Head}
 use Rattle.forms.specs.declared.row.Row.{Row}
+use Rattle.forms.specs.Buffers.{over}
 use Rattle.forms.specs.Code.{Code, codeOf, headOf}
 use Rattle.forms.specs.Rows.{limitsOf, placedOk}
 use Rattle.forms.specs.Rules.{countOk, filled}
@@ -147,11 +148,22 @@ told (Ok code) = Ok tt
 told (Err e) = Err e
 
 -- The head is written only where nothing is refused.
-abbrev pub headAfter : Result Code FormFault → Head → Head
-headAfter (Ok code) old = headOf code
-headAfter (Err e) old = old
+abbrev pub headFrom : Result Code FormFault → Head → Head
+headFrom (Ok code) old = headOf code
+headFrom (Err e) old = old
 
--- Where nothing is refused, the rows and the head make a form, and it has the code that the bytes say.
-abbrev pub Fills : Result Code FormFault → List Row → Head → Type 0
-Fills (Ok code) rows head = (filled rows head ≡ Ok tt) × (codeOf rows head ≡ code)
-Fills (Err e) rows head = Unit {0}
+-- Reading bytes into lent rows and a lent head: what it answers.
+abbrev pub answer : List ℕ → List Row → Result (Unit {0}) FormFault
+answer bytes rows = told (reading bytes (length rows) .outcome)
+
+-- The rows after it: those that were stored, written over those lent.
+abbrev pub rowsAfter : List ℕ → List Row → List Row
+rowsAfter bytes rows = over 0 (reading bytes (length rows) .stored) rows
+
+-- The head after it.
+abbrev pub headAfter : List ℕ → List Row → Head → Head
+headAfter bytes rows old = headFrom (reading bytes (length rows) .outcome) old
+
+-- A form that was read is filled from the rows and the head, and has the code that the bytes say.
+abbrev pub Fills : List ℕ → ℕ → List Row → Head → Type 0
+Fills bytes room rows head = (code : Code) → reading bytes room .outcome ≡ Ok code → (filled rows head ≡ Ok tt) × (codeOf rows head ≡ code)

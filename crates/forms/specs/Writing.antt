@@ -7,10 +7,8 @@ use lib.Dec.{leb, ltb}
 use lib.ListN.{length}
 use Rattle.std.specs.declared.option.Option.{Option}
 use Rattle.std.specs.declared.option.Option.the-variants.{None, Some}
-use Rattle.std.specs.declared.result.Result.{Result}
-use Rattle.std.specs.declared.result.Result.the-variants.{Ok, Err}
+use Rattle.std.specs.declared.result.Result.the-variants.{Ok}
 use Rattle.numbers.specs.Writing.{written}
-use Rattle.forms.specs.declared.fault.FormFault.{FormFault}
 use Rattle.forms.specs.declared.limits.Limits.{Limits}
 use Rattle.forms.specs.declared.row.Row.{Row}
 use Rattle.forms.specs.Code.{Code, rowCount}
@@ -58,9 +56,8 @@ codeBytes code =
   written (length (code .blocks)) ++ (written (length (code .params)) ++ (namesBytes (code .params) ++ blocksBytes (length (code .blocks) - 1) (code .blocks)))
 
 -- Whatever reads as a form is what would be written for it.
-abbrev pub IsWritten : Result Code FormFault → List ℕ → Type 0
-IsWritten (Ok code) bytes = bytes ≡ codeBytes code
-IsWritten (Err e) bytes = Unit {0}
+abbrev pub IsWritten : List ℕ → ℕ → Type 0
+IsWritten bytes room = (code : Code) → reading bytes room .outcome ≡ Ok code → bytes ≡ codeBytes code
 
 -- Each constant is a word.
 abbrev pub wordsOk : List Row → Bool

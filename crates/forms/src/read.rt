@@ -3,7 +3,7 @@ ghost use mathlib.Core.Path.{_≡_};
 ghost use Prim.Native.Nat.{_-_, _≤_};
 ghost use lib.ListN.{length, replicate};
 ghost use Rattle.forms.specs.Buffers.{over, onto, lengths};
-ghost use Rattle.forms.specs.Reading.{fieldAt, wordAt, fieldsAt, rowAt, countIn, rowCountAt, namesAt, rowsAt, blocksAt, reading, told, headAfter, Fills};
+ghost use Rattle.forms.specs.Reading.{fieldAt, wordAt, fieldsAt, rowAt, countIn, rowCountAt, namesAt, rowsAt, blocksAt, answer, rowsAfter, headAfter, Fills};
 ghost use Rattle.forms.specs.Writing.{IsWritten, Accepts};
 use crate::fault::FormFault;
 use crate::fault::FormFromNumber;
@@ -18,11 +18,11 @@ use numbers::read_number;
 // Reads a form: its rows into a lent buffer, one by one, and the rest into a lent head, after the last
 // row. Rows stored before a refusal remain, and the head is then as it was.
 pub fn read_form(bytes: &[u8], rows: &mut [Row], head: &mut Head) -> Result<(), FormFault>
-    ensures result { λ r. ⌜ r ≡ told (reading (now (bytes .entry)) (length (now (rows .entry))) .outcome) ⌝ }
-    ensures rows { λ _. ⌜ now (rows .exit) ≡ over 0 (reading (now (bytes .entry)) (length (now (rows .entry))) .stored) (now (rows .entry)) ⌝ }
-    ensures head { λ _. ⌜ now (head .exit) ≡ headAfter (reading (now (bytes .entry)) (length (now (rows .entry))) .outcome) (now (head .entry)) ⌝ }
-    ensures fills { λ _. ⌜ Fills (reading (now (bytes .entry)) (length (now (rows .entry))) .outcome) (now (rows .exit)) (now (head .exit)) ⌝ }
-    ensures written { λ _. ⌜ IsWritten (reading (now (bytes .entry)) (length (now (rows .entry))) .outcome) (now (bytes .entry)) ⌝ }
+    ensures result { λ r. ⌜ r ≡ answer (now (bytes .entry)) (now (rows .entry)) ⌝ }
+    ensures rows { λ _. ⌜ now (rows .exit) ≡ rowsAfter (now (bytes .entry)) (now (rows .entry)) ⌝ }
+    ensures head { λ _. ⌜ now (head .exit) ≡ headAfter (now (bytes .entry)) (now (rows .entry)) (now (head .entry)) ⌝ }
+    ensures fills { λ _. ⌜ Fills (now (bytes .entry)) (length (now (rows .entry))) (now (rows .exit)) (now (head .exit)) ⌝ }
+    ensures written { λ _. ⌜ IsWritten (now (bytes .entry)) (length (now (rows .entry))) ⌝ }
     ensures accepts { λ _. ⌜ Accepts (now (bytes .entry)) (length (now (rows .entry))) ⌝ }
 {
     let block_count = count_in(bytes, 0, 1, 64)?;
