@@ -1,12 +1,10 @@
 -- One block more.
 use mathlib.Core.Path.{_≡_, refl, sym, ap, _∙_}
-use mathlib.Core.Bool.{Bool, true, false, cond}
-use mathlib.Core.List.{List, [], _∷_, _++_, map}
-use Prim.Native.Nat.{ℕ, zero, suc, _+_, _-_, _≤_, _<_}
+use mathlib.Core.Bool.{cond}
+use mathlib.Core.List.{List, _++_}
+use Prim.Native.Nat.{ℕ, _+_, _-_, _≤_, _<_}
 use native.Mathlib.Omega.{arith}
-use lib.Dec.{eqb, ltb, leb}
 use lib.ListN.{length, set, replicate, length-set}
-use Rattle.std.proofs.shelf.Tests.{cases-bool}
 use Rattle.std.proofs.shelf.Ways.{tells}
 use Rattle.std.specs.declared.result.Result.{Result}
 use Rattle.std.specs.declared.result.Result.the-variants.{Ok, Err}
@@ -17,7 +15,7 @@ use Rattle.forms.specs.declared.fault.FormFault.{FormFault}
 use Rattle.forms.specs.declared.fault.FormFault.the-variants.{Count}
 use Rattle.forms.specs.declared.row.Row.{Row}
 use Rattle.forms.specs.Buffers.{over, onto, lengths}
-use Rattle.forms.specs.Reading.{Reading, andThen, before, ending, goOn, lifted, rowCountAt, rowsAt, blockThen, blocksAt}
+use Rattle.forms.specs.Reading.{Reading, andThen, before, goOn, lifted, rowCountAt, rowsAt, blockThen, blocksAt}
 use Rattle.forms.specs.Rules.{countOk}
 use Rattle.forms.proofs.Buffers.{fuel, onto-before, over-append, length-over}
 use Rattle.forms.proofs.Wells.{rows-good}

@@ -1,10 +1,10 @@
 -- What is written into a buffer, one item and one part at a time.
-use mathlib.Core.Path.{_≡_, refl, sym, ap, _∙_}
+use mathlib.Core.Path.{_≡_, refl, sym, _∙_}
 use mathlib.Core.List.{List, [], _∷_, _++_}
 use Prim.Native.Nat.{ℕ, suc, _+_, _-_, _≤_, _<_}
 use native.Mathlib.Omega.{arith}
 use lib.ListN.{length, set, take, drop, length-set}
-use Rattle.std.proofs.shelf.Lists.{append-assoc, append-nil, take-more-set, drop-set-lt, length-append, take-append-drop}
+use Rattle.std.proofs.shelf.Lists.{append-assoc, take-more-set, drop-set-lt, take-append-drop}
 use Rattle.std.specs.declared.result.Result.{Result}
 use Rattle.std.specs.declared.result.Result.the-variants.{Ok, Err}
 use Rattle.numbers.specs.declared.read.Parsed.{Parsed}

@@ -22,7 +22,7 @@ use Rattle.forms.specs.declared.fault.FormFault.{FormFault}
 use Rattle.forms.specs.declared.limits.Limits.{Limits}
 use Rattle.forms.specs.declared.row.Row.{Row}
 use Rattle.forms.specs.Code.{Code}
-use Rattle.forms.specs.Reading.{Reading, lifted, andThen, upTo, fieldAt, wordAt, fieldsAt, rowAt, countIn, rowCountAt, namesAt, rowsAt, blocksAt, reading}
+use Rattle.forms.specs.Reading.{Reading, lifted, andThen, upTo, fieldAt, wordAt, fieldsAt, rowAt, countIn, rowCountAt, namesAt, rowsAt, blocksAt}
 use Rattle.forms.specs.Rows.{limitsOf, placedOk}
 use Rattle.forms.specs.Writing.{fieldBytes, wordBytes, fieldsBytes, rowBytes, rowsBytes, blocksBytes, namesBytes, codeBytes, IsWritten}
 use Rattle.forms.proofs.Outcomes.{and-then-all, go-on-all, before-all, block-then-all}

@@ -2,18 +2,18 @@
 use mathlib.Core.Path.{_≡_, refl, sym, ap, _∙_}
 use mathlib.Core.Bool.{true, _&&_}
 use mathlib.Core.List.{List, [], _∷_}
-use Prim.Native.Nat.{ℕ, zero, suc, min, _+_, _-_, _≤_, _<_}
+use Prim.Native.Nat.{ℕ, zero, suc, _+_, _-_, _≤_, _<_}
 use native.Mathlib.Omega.{arith}
 use lib.Dec.{leb}
-use lib.ListN.{length, getD, take, drop, length-take, length-drop}
-use Rattle.std.proofs.shelf.Lists.{drop-drop, getD-past, getD-take, take-take, take-all, length-take-le}
+use lib.ListN.{length, getD, take, drop, length-drop}
+use Rattle.std.proofs.shelf.Lists.{drop-drop, getD-past, getD-take, take-take, length-take-le}
 use Rattle.std.proofs.shelf.Sums.{sumBy-cons}
 use Rattle.std.proofs.shelf.Tests.{and-parts, leb-true}
 use Rattle.std.proofs.shelf.Ways.{tells}
 use Rattle.std.specs.shelf.Lists.{sum}
 use Rattle.forms.specs.declared.row.Head.{Head}
 use Rattle.forms.specs.declared.row.Row.{Row}
-use Rattle.forms.specs.Code.{Code, cut, codeOf, rowsOf}
+use Rattle.forms.specs.Code.{cut, codeOf, rowsOf}
 use Rattle.forms.specs.Rules.{blockOk, countOk, blocksOk, countsOk, complete, entriesOk, headOk, formOk}
 
 pub length-cut : (counts : List ℕ) (rows : List Row) → length (cut counts rows) ≡ length counts

@@ -1,15 +1,14 @@
 -- One parameter's name more.
-use mathlib.Core.Path.{_≡_, refl, sym, ap, _∙_}
-use mathlib.Core.List.{List, []}
-use Prim.Native.Nat.{ℕ, suc, _+_, _-_, _≤_, _<_}
+use mathlib.Core.Path.{_≡_, refl, sym, _∙_}
+use mathlib.Core.List.{List}
+use Prim.Native.Nat.{ℕ, _+_, _-_, _≤_, _<_}
 use native.Mathlib.Omega.{arith}
 use lib.ListN.{length, set, replicate, length-set}
 use Rattle.std.specs.declared.option.Option.the-variants.{Some}
-use Rattle.std.specs.declared.result.Result.{Result}
 use Rattle.std.specs.declared.result.Result.the-variants.{Ok, Err}
 use Rattle.numbers.specs.declared.read.Parsed.{Parsed}
 use Rattle.forms.specs.declared.fault.FormFault.{FormFault}
-use Rattle.forms.specs.Buffers.{over, onto}
+use Rattle.forms.specs.Buffers.{onto}
 use Rattle.forms.specs.Reading.{andThen, before, fieldAt, namesAt}
 use Rattle.forms.proofs.Buffers.{fuel, onto-before}
 

@@ -8,7 +8,7 @@ use Rattle.std.specs.declared.result.Result.the-variants.{Ok, Err}
 use Rattle.numbers.specs.declared.read.Parsed.{Parsed}
 use Rattle.forms.specs.declared.fault.FormFault.{FormFault}
 use Rattle.forms.specs.declared.row.Row.{Row}
-use Rattle.forms.specs.Reading.{Reading, andThen, before, ending, goOn, blockThen}
+use Rattle.forms.specs.Reading.{Reading, andThen, before, goOn, blockThen}
 
 module _ {X Y : Type 0} where
   -- what holds of all that can come out, holds of what came out

@@ -1,10 +1,10 @@
 -- What was read makes a form, and the form has the code that was read.
-use mathlib.Core.Path.{_≡_, refl, sym, ap, subst, _∙_}
-use mathlib.Core.Bool.{Bool, true, false, _&&_, cond}
+use mathlib.Core.Path.{_≡_, refl, ap, subst, _∙_}
+use mathlib.Core.Bool.{true, _&&_, cond}
 use mathlib.Core.List.{List, [], _∷_, _++_, map}
-use Prim.Native.Nat.{ℕ, zero, suc, _+_, _-_, _≤_, _<_}
+use Prim.Native.Nat.{ℕ, zero, suc, _+_, _-_, _≤_}
 use native.Mathlib.Omega.{arith}
-use lib.Dec.{eqb, leb, ltb}
+use lib.Dec.{leb}
 use lib.ListN.{length, take, drop, replicate}
 use Rattle.std.proofs.shelf.Lists.{append-assoc, length-append, length-map, length-replicate, take-at, drop-at, drop-replicate}
 use Rattle.std.proofs.shelf.Tests.{and-from, le-leb, leb-true, lt-ltb}
@@ -15,14 +15,13 @@ use Rattle.std.specs.declared.result.Result.the-variants.{Ok, Err}
 use Rattle.numbers.specs.Reading.{number}
 use Rattle.numbers.specs.declared.fault.NumberFault.{NumberFault}
 use Rattle.numbers.specs.declared.read.Parsed.{Parsed}
-use Rattle.forms.specs.declared.fault.FormFault.{FormFault}
-use Rattle.forms.specs.declared.fault.FormFault.the-variants.{Count, LeftOver}
+use Rattle.forms.specs.declared.fault.FormFault.the-variants.{Count}
 use Rattle.forms.specs.declared.row.Head.{Head}
 use Rattle.forms.specs.declared.row.Row.{Row}
 use Rattle.forms.specs.Buffers.{over}
 use Rattle.forms.specs.Code.{Code, cut, codeOf, headOf}
-use Rattle.forms.specs.Reading.{Reading, lifted, andThen, before, fieldAt, countIn, rowCountAt, namesAt, goOn, rowsAt, blockThen, blocksAt, closed, reading, rowsAfter, headAfter, Fills}
-use Rattle.forms.specs.Rules.{countOk, blockOk, blocksOk, allBelow, countsOk, complete, entriesOk, headOk, formOk, filled}
+use Rattle.forms.specs.Reading.{lifted, andThen, before, fieldAt, countIn, rowCountAt, namesAt, rowsAt, blocksAt, reading, rowsAfter, headAfter, Fills}
+use Rattle.forms.specs.Rules.{countOk, blocksOk, allBelow, headOk, formOk, filled}
 use Rattle.forms.proofs.Buffers.{length-over, over-start}
 use Rattle.forms.proofs.Outcomes.{and-then-all, go-on-all, before-all, block-then-all}
 use Rattle.forms.proofs.Wells.{Good, rows-good, field-within}

@@ -15,7 +15,7 @@ use Rattle.forms.specs.declared.fault.FormFault.{FormFault}
 use Rattle.forms.specs.declared.fault.FormFault.the-variants.{Ending, NoPlace}
 use Rattle.forms.specs.declared.row.Row.{Row}
 use Rattle.forms.specs.Buffers.{over}
-use Rattle.forms.specs.Reading.{Reading, ending, storing, goOn, rowAt, rowsAt}
+use Rattle.forms.specs.Reading.{Reading, bare, storing, goOn, rowAt, rowsAt}
 use Rattle.forms.specs.Rows.{placedOk}
 use Rattle.forms.proofs.Buffers.{fuel}
 
@@ -45,8 +45,8 @@ module _ {count last room : ℕ} {bytes : List ℕ} {at place : ℕ} {first : Li
     cond (placedOk (eqb (count - (i + 1)) 0) (p .value))
       (cond (ltb (place + i) room)
         (storing (p .value ∷ []) (rowsAt (count - (i + 1)) last room bytes (p .next) ((place + i) + 1)))
-        (ending (Err (NoPlace next))))
-      (ending (Err (Ending next)))
+        (bare (Err (NoPlace next))))
+      (bare (Err (Ending next)))
 
   step : i < count → whole ≡ left (place + i) (goOn (rowAt last bytes next) then) rows
   unfolding then

@@ -1,8 +1,8 @@
 -- Rows that were read keep the rules.
-use mathlib.Core.Path.{_≡_, refl, sym, ap, subst, _∙_}
-use mathlib.Core.Bool.{Bool, true, false, _&&_, _||_, cond}
-use mathlib.Core.List.{List, [], _∷_}
-use Prim.Native.Nat.{ℕ, zero, suc, _+_, _≤_, _<_}
+use mathlib.Core.Path.{_≡_, refl, sym, ap, subst}
+use mathlib.Core.Bool.{Bool, true, false}
+use mathlib.Core.List.{List}
+use Prim.Native.Nat.{ℕ, zero, suc, _+_, _≤_}
 use native.Mathlib.Omega.{arith}
 use lib.Dec.{eqb, leb, ltb}
 use lib.ListN.{length}
@@ -15,11 +15,9 @@ use Rattle.std.specs.declared.result.Result.the-variants.{Ok, Err}
 use Rattle.numbers.specs.Reading.{number}
 use Rattle.numbers.specs.declared.fault.NumberFault.{NumberFault}
 use Rattle.numbers.specs.declared.read.Parsed.{Parsed}
-use Rattle.forms.specs.declared.fault.FormFault.{FormFault}
-use Rattle.forms.specs.declared.fault.FormFault.the-variants.{Ending, NoPlace}
 use Rattle.forms.specs.declared.limits.Limits.{Limits}
 use Rattle.forms.specs.declared.row.Row.{Row}
-use Rattle.forms.specs.Reading.{Reading, lifted, andThen, upTo, fieldAt, wordAt, fieldsAt, rowAt, ending, storing, goOn, rowsAt}
+use Rattle.forms.specs.Reading.{Reading, lifted, andThen, upTo, fieldAt, wordAt, fieldsAt, rowAt, rowsAt}
 use Rattle.forms.specs.Rows.{limitsOf, within, withinWord, fieldsOk, rowOk, placedOk}
 use Rattle.forms.specs.Rules.{blockOk}
 use Rattle.forms.proofs.Outcomes.{and-then-all, go-on-all}

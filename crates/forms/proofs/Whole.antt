@@ -1,10 +1,8 @@
 -- A reading from its parts.
-use mathlib.Core.Path.{_≡_, refl, sym, ap, subst, _∙_}
-use mathlib.Core.Bool.{cond}
-use mathlib.Core.List.{List, [], _∷_, map}
-use Prim.Native.Nat.{ℕ, _+_, _-_, _≤_, _<_}
+use mathlib.Core.Path.{_≡_, refl, sym, ap, _∙_}
+use mathlib.Core.List.{List, map}
+use Prim.Native.Nat.{ℕ, _-_, _≤_, _<_}
 use native.Mathlib.Omega.{arith}
-use lib.Dec.{ltb}
 use lib.ListN.{length, getD, replicate}
 use Rattle.std.proofs.shelf.Tests.{lt-ltb, le-ltb}
 use Rattle.std.specs.declared.result.Result.{Result}
@@ -16,7 +14,7 @@ use Rattle.forms.specs.declared.row.Head.{Head}
 use Rattle.forms.specs.declared.row.Row.{Row}
 use Rattle.forms.specs.Buffers.{over, onto, lengths}
 use Rattle.forms.specs.Code.{Code, headOf}
-use Rattle.forms.specs.Reading.{Reading, andThen, ending, goOn, countIn, namesAt, blocksAt, closed, reading, answer, rowsAfter, headAfter, Fills}
+use Rattle.forms.specs.Reading.{Reading, andThen, bare, goOn, countIn, namesAt, blocksAt, closed, reading, answer, rowsAfter, headAfter, Fills}
 use Rattle.forms.specs.Writing.{IsWritten, Accepts}
 use Rattle.forms.proofs.Canonical.{is-written}
 use Rattle.forms.proofs.Complete.{accepts-all}
@@ -51,10 +49,10 @@ same-head : {b b′ p p′ : ℕ} {ns ns′ cs cs′ : List ℕ} → b ≡ b′ 
 same-head eb ep en ec = cc
 
 -- a count is refused
-pub block-count-refused : (bytes : List ℕ) (room : ℕ) (e : FormFault) → Err e ≡ countIn 1 64 bytes 0 → reading bytes room ≡ ending (Err e)
+pub block-count-refused : (bytes : List ℕ) (room : ℕ) (e : FormFault) → Err e ≡ countIn 1 64 bytes 0 → reading bytes room ≡ bare (Err e)
 block-count-refused bytes room e h = rw (sym h) refl
 
-pub param-count-refused : (bytes : List ℕ) (room : ℕ) (n : Parsed ℕ) → Ok n ≡ countIn 1 64 bytes 0 → (e : FormFault) → Err e ≡ countIn 0 8 bytes (n .next) → reading bytes room ≡ ending (Err e)
+pub param-count-refused : (bytes : List ℕ) (room : ℕ) (n : Parsed ℕ) → Ok n ≡ countIn 1 64 bytes 0 → (e : FormFault) → Err e ≡ countIn 0 8 bytes (n .next) → reading bytes room ≡ bare (Err e)
 param-count-refused bytes room n en e h = rw (sym en) (rw (sym h) refl)
 
 -- the counts are read
@@ -70,7 +68,7 @@ module _ (bytes : List ℕ) (room : ℕ) (n : Parsed ℕ) (en : Ok n ≡ countIn
   unfolding then
   counted = rw (sym en) (rw (sym em) refl)
 
-  pub names-refused : (e : FormFault) → Err e ≡ onto 0 (replicate 8 0) (namesAt (m .value) bytes (m .next)) → reading bytes room ≡ ending (Err e)
+  pub names-refused : (e : FormFault) → Err e ≡ onto 0 (replicate 8 0) (namesAt (m .value) bytes (m .next)) → reading bytes room ≡ bare (Err e)
   names-refused e h = counted ∙ rw (onto-err 0 (replicate 8 0) (namesAt (m .value) bytes (m .next)) e h) refl
 
   -- the names are read

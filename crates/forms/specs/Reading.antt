@@ -1,6 +1,6 @@
--- What the bytes of a form say.
+-- What the bytes of a form say: numbers and fields, a row, the counts and names; then readings that store rows, and the whole form; last, what a call leaves.
 use mathlib.Core.Path.{_≡_}
-use mathlib.Core.Bool.{Bool, true, false, _&&_, cond}
+use mathlib.Core.Bool.{Bool, _&&_, cond}
 use mathlib.Core.List.{List, [], _∷_, _++_}
 use Prim.Native.Nat.{ℕ, zero, suc, _+_, _-_}
 use lib.Dec.{eqb, leb, ltb}
@@ -91,9 +91,9 @@ pub record Reading (X : Type 0) : Type 0 where
   pub outcome : Result X FormFault
 
 module _ {X : Type 0} where
-  -- Nothing more is stored.
-  abbrev pub ending : Result X FormFault → Reading X
-  ending outcome = record { stored = []; outcome = outcome }
+  -- What came out, with no row stored.
+  abbrev pub bare : Result X FormFault → Reading X
+  bare outcome = record { stored = []; outcome = outcome }
 
   -- Rows stored before the others.
   abbrev pub storing : List Row → Reading X → Reading X
@@ -103,18 +103,18 @@ module _ {X Y : Type 0} where
   -- Go on with what was read, unless it was refused; a refusal stores nothing more.
   abbrev pub goOn : Result X FormFault → (X → Reading Y) → Reading Y
   goOn (Ok x) go = go x
-  goOn (Err e) go = ending (Err e)
+  goOn (Err e) go = bare (Err e)
 
 -- So many rows of a block, in a form whose last block is `last`; `place` rows are stored already, and there is room for `room`. What comes out is the place after them in the bytes.
 abbrev pub rowsAt : ℕ → ℕ → ℕ → List ℕ → ℕ → ℕ → Reading ℕ
-rowsAt zero last room bytes at place = ending (Ok at)
+rowsAt zero last room bytes at place = bare (Ok at)
 rowsAt (suc left) last room bytes at place =
   goOn (rowAt last bytes at) (λ p.
     cond (placedOk (eqb left 0) (p .value))
       (cond (ltb place room)
         (storing (p .value ∷ []) (rowsAt left last room bytes (p .next) (place + 1)))
-        (ending (Err (NoPlace at))))
-      (ending (Err (Ending at))))
+        (bare (Err (NoPlace at))))
+      (bare (Err (Ending at))))
 
 -- A block that was read comes before the others; after one that was refused nothing comes.
 abbrev pub blockThen : List Row → Result ℕ FormFault → (ℕ → Reading (Parsed (List (List Row)))) → Reading (Parsed (List (List Row)))
@@ -123,7 +123,7 @@ blockThen rows (Err e) go = record { stored = rows; outcome = Err e }
 
 -- So many blocks, each its row count and its rows.
 abbrev pub blocksAt : ℕ → ℕ → ℕ → List ℕ → ℕ → ℕ → Reading (Parsed (List (List Row)))
-blocksAt zero last room bytes at place = ending (Ok (record { value = []; next = at }))
+blocksAt zero last room bytes at place = bare (Ok (record { value = []; next = at }))
 blocksAt (suc left) last room bytes at place =
   goOn (rowCountAt place bytes at) (λ count.
     let block : Reading ℕ = rowsAt (count .value) last room bytes (count .next) place in

@@ -1,5 +1,4 @@
 -- The refusal that each fault of a form is.
-use Prim.Native.Nat.{ℕ}
 use Rattle.numbers.specs.Refusals.{atPlace, numberRefusal}
 use Rattle.numbers.specs.declared.refusal.Refusal.{Refusal}
 use Rattle.forms.specs.declared.fault.FormFault.{FormFault}

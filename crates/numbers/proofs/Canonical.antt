@@ -11,9 +11,7 @@ use lib.ListN.{length, getD, take, drop}
 use lib.Seq.{getD-drop}
 use Rattle.std.proofs.shelf.Tests.{cases-lt, lt-ltb, le-ltb}
 use Rattle.std.proofs.shelf.Ways.{tells}
-use Rattle.std.specs.declared.result.Result.{Result}
 use Rattle.std.specs.declared.result.Result.the-variants.{Ok, Err}
-use Rattle.numbers.specs.declared.fault.NumberFault.{NumberFault}
 use Rattle.numbers.specs.declared.fault.NumberFault.the-variants.{NotShortest, TooLarge}
 use Rattle.numbers.specs.declared.read.Parsed.{Parsed}
 use Rattle.numbers.specs.Reading.{groups, number}

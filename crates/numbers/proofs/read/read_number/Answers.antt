@@ -1,7 +1,7 @@
-use mathlib.Core.Path.{_≡_, sym, _∙_}
-use Prim.Native.Nat.{_+_, _-_, _*_, _^_, _≤_, _<_}
+use mathlib.Core.Path.{_≡_, sym}
+use Prim.Native.Nat.{_-_, _<_}
 use native.Mathlib.Omega.{arith}
-use lib.ListN.{getD, length}
+use lib.ListN.{getD}
 use Rattle.numbers.proofs.Canonical.{written-at}
 use Rattle.numbers.proofs.Groups.{cut-off, not-shortest, too-large, whole, again, none-left, fits, small, part}
 use Rattle.numbers.proofs.read.read_number.Needs as need

@@ -1,4 +1,4 @@
-use mathlib.Core.Path.{_≡_, sym, _∙_}
+use mathlib.Core.Path.{sym, _∙_}
 use native.Mathlib.Omega.{arith}
 use Rattle.forms.proofs.Checks.{row-one, rows-all}
 use Rattle.forms.proofs.form.fill.block_ok.Needs as need
