@@ -1,6 +1,5 @@
 // Which fields a kind of row has, and how far each goes.
 ghost use mathlib.Core.Path.{_≡_};
-ghost use Prim.Native.Nat.{_-_};
 ghost use Rattle.forms.specs.Rows.{limitsOf, within, withinWord, fieldsOk, rowOk, placedOk};
 use crate::row::Row;
 

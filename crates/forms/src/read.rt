@@ -16,7 +16,8 @@ use numbers::Parsed;
 use numbers::read_number;
 
 // Reads a form: its rows into a lent buffer, one by one, and the rest into a lent head, after the last
-// row. Rows stored before a refusal remain, and the head is then as it was.
+// row. Rows stored before a refusal remain, and the head is then as it was. What was read fills a form,
+// and bytes are read exactly if they are the writing of a form that keeps the rules and has room.
 pub fn read_form(bytes: &[u8], rows: &mut [Row], head: &mut Head) -> Result<(), FormFault>
     ensures result { λ r. ⌜ r ≡ answer (now (bytes .entry)) (now (rows .entry)) ⌝ }
     ensures rows { λ _. ⌜ now (rows .exit) ≡ rowsAfter (now (bytes .entry)) (now (rows .entry)) ⌝ }

@@ -1,8 +1,7 @@
 use super::*;
-use numbers::ParsedDebug;
+use numbers::Refusal;
 use numbers::RefusalDebug;
 use numbers::RefusalPartialEq;
-use numbers::Refusal;
 use std::test::*;
 
 // Two blocks and one parameter: call 0, then a pause; then give.

@@ -1,7 +1,5 @@
 // Reading a number.
 ghost use mathlib.Core.Path.{_≡_};
-ghost use Prim.Native.Nat.{_-_};
-ghost use lib.ListN.{take, drop};
 ghost use Rattle.std.specs.Vec.{made};
 ghost use Rattle.numbers.specs.Reading.{number};
 ghost use Rattle.numbers.specs.Writing.{WrittenAt};

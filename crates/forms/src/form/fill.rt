@@ -1,7 +1,5 @@
 // Filling a form.
 ghost use mathlib.Core.Path.{_≡_};
-ghost use Prim.Native.Nat.{_-_};
-ghost use lib.ListN.{take, drop};
 ghost use Rattle.forms.specs.Code.{giveZero};
 ghost use Rattle.forms.specs.Rules.{allBelow, blockOk, blocksOk, headOk, formOk, filled};
 ghost use Rattle.forms.specs.View.{code, Holds};
