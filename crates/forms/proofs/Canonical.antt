@@ -25,7 +25,7 @@ use Rattle.forms.specs.Code.{Code}
 use Rattle.forms.specs.Reading.{Reading, lifted, andThen, upTo, fieldAt, wordAt, fieldsAt, rowAt, countIn, rowCountAt, namesAt, rowsAt, blocksAt}
 use Rattle.forms.specs.Rows.{limitsOf, placedOk}
 use Rattle.forms.specs.Writing.{fieldBytes, wordBytes, fieldsBytes, rowBytes, rowsBytes, blocksBytes, namesBytes, codeBytes, IsWritten}
-use Rattle.forms.proofs.Outcomes.{and-then-all, go-on-all, before-all, block-then-all}
+use Rattle.forms.proofs.Outcomes.{and-then-all, fields-all, go-on-all, before-all, block-then-all}
 use Rattle.forms.proofs.Sound.{names-many, blocks-many}
 use Rattle.forms.proofs.Wells.{rows-good}
 
@@ -84,25 +84,15 @@ module _ (bytes : List ℕ) (f : (i : ℕ) → getD bytes i 0 < 256) where
   fields-spans : (l : Limits) (kind at : ℕ) (p : Parsed Row) → fieldsAt l kind bytes at ≡ Ok p
     → (kind ≡ p .value .kind) × Spans bytes at (p .next) (fieldsBytes l (p .value))
   fields-spans l kind at =
-    let P : Parsed Row → Type 0 = λ p. (kind ≡ p .value .kind) × Spans bytes at (p .next) (fieldsBytes l (p .value)) in
-    and-then-all P (fieldAt (l .o) bytes at) _ (λ o eo.
-    and-then-all P (fieldAt (l .k) bytes (o .next)) _ (λ k ek.
-    and-then-all P (fieldAt (l .d) bytes (k .next)) _ (λ d ed.
-    and-then-all P (fieldAt (l .a) bytes (d .next)) _ (λ a ea.
-    and-then-all P (fieldAt (l .b) bytes (a .next)) _ (λ b eb.
-    and-then-all P (wordAt (l .c) bytes (b .next)) _ (λ c ec.
-    and-then-all P (fieldAt (l .t) bytes (c .next)) _ (λ t et.
-    and-then-all P (fieldAt (l .f) bytes (t .next)) _ (λ f ef p e.
-      let row : Row = record { kind = kind; o = o .value; d = d .value; a = a .value; b = b .value; k = k .value; c = c .value; t = t .value; f = f .value } in
-      let same : record { value = row; next = f .next } ≡ p = grind arith in
-      subst P same (refl,
+    fields-all (λ p. (kind ≡ p .value .kind) × Spans bytes at (p .next) (fieldsBytes l (p .value))) l kind bytes at (λ o eo k ek d ed a ea b eb c ec t et f ef.
+      (refl,
         spans-then (field-spans (l .o) at o eo)
         (spans-then (field-spans (l .k) (o .next) k ek)
         (spans-then (field-spans (l .d) (k .next) d ed)
         (spans-then (field-spans (l .a) (d .next) a ea)
         (spans-then (field-spans (l .b) (a .next) b eb)
         (spans-then (word-spans (l .c) (b .next) c ec)
-        (spans-then (field-spans (l .t) (c .next) t et) (field-spans (l .f) (t .next) f ef))))))))))))))))
+        (spans-then (field-spans (l .t) (c .next) t et) (field-spans (l .f) (t .next) f ef)))))))))
 
   -- a row: its kind, then its fields
   row-spans : (last at : ℕ) (p : Parsed Row) → rowAt last bytes at ≡ Ok p → Spans bytes at (p .next) (rowBytes last (p .value))

@@ -7,8 +7,9 @@ use Rattle.std.specs.declared.result.Result.{Result}
 use Rattle.std.specs.declared.result.Result.the-variants.{Ok, Err}
 use Rattle.numbers.specs.declared.read.Parsed.{Parsed}
 use Rattle.forms.specs.declared.fault.FormFault.{FormFault}
+use Rattle.forms.specs.declared.limits.Limits.{Limits}
 use Rattle.forms.specs.declared.row.Row.{Row}
-use Rattle.forms.specs.Reading.{Reading, andThen, before, goOn, blockThen}
+use Rattle.forms.specs.Reading.{Reading, andThen, before, fieldAt, wordAt, fieldsAt, goOn, blockThen}
 
 module _ {X Y : Type 0} where
   -- what holds of all that can come out, holds of what came out
@@ -33,3 +34,30 @@ pub block-then-all : (P : List Row → Parsed (List (List Row)) → Type 0) (row
   → (p : Parsed (List (List Row))) → blockThen rows r go .outcome ≡ Ok p → P (blockThen rows r go .stored) p
 block-then-all P rows (Ok next) go each p e = each next refl p e
 block-then-all P rows (Err f) go each p e = absurd (grind arith)
+
+-- the fields of a row, one after the other
+pub fields-all : (P : Parsed Row → Type 0) (l : Limits) (kind : ℕ) (bytes : List ℕ) (at : ℕ)
+  → ((o : Parsed ℕ) → fieldAt (l .o) bytes at ≡ Ok o
+    → (k : Parsed ℕ) → fieldAt (l .k) bytes (o .next) ≡ Ok k
+    → (d : Parsed ℕ) → fieldAt (l .d) bytes (k .next) ≡ Ok d
+    → (a : Parsed ℕ) → fieldAt (l .a) bytes (d .next) ≡ Ok a
+    → (b : Parsed ℕ) → fieldAt (l .b) bytes (a .next) ≡ Ok b
+    → (c : Parsed ℕ) → wordAt (l .c) bytes (b .next) ≡ Ok c
+    → (t : Parsed ℕ) → fieldAt (l .t) bytes (c .next) ≡ Ok t
+    → (f : Parsed ℕ) → fieldAt (l .f) bytes (t .next) ≡ Ok f
+    → P (record {
+        value = record { kind = kind; o = o .value; d = d .value; a = a .value; b = b .value; k = k .value; c = c .value; t = t .value; f = f .value };
+        next = f .next }))
+  → (p : Parsed Row) → fieldsAt l kind bytes at ≡ Ok p → P p
+fields-all P l kind bytes at each =
+  and-then-all P (fieldAt (l .o) bytes at) _ (λ o eo.
+  and-then-all P (fieldAt (l .k) bytes (o .next)) _ (λ k ek.
+  and-then-all P (fieldAt (l .d) bytes (k .next)) _ (λ d ed.
+  and-then-all P (fieldAt (l .a) bytes (d .next)) _ (λ a ea.
+  and-then-all P (fieldAt (l .b) bytes (a .next)) _ (λ b eb.
+  and-then-all P (wordAt (l .c) bytes (b .next)) _ (λ c ec.
+  and-then-all P (fieldAt (l .t) bytes (c .next)) _ (λ t et.
+  and-then-all P (fieldAt (l .f) bytes (t .next)) _ (λ f ef p e.
+    let row : Row = record { kind = kind; o = o .value; d = d .value; a = a .value; b = b .value; k = k .value; c = c .value; t = t .value; f = f .value } in
+    let same : record { value = row; next = f .next } ≡ p = grind arith in
+    subst P same (each o eo k ek d ed a ea b eb c ec t et f ef)))))))))

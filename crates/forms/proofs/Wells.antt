@@ -1,5 +1,5 @@
 -- Rows that were read keep the rules.
-use mathlib.Core.Path.{_≡_, refl, sym, ap, subst}
+use mathlib.Core.Path.{_≡_, refl, sym, ap}
 use mathlib.Core.Bool.{Bool, true, false}
 use mathlib.Core.List.{List}
 use Prim.Native.Nat.{ℕ, zero, suc, _+_, _≤_}
@@ -20,7 +20,7 @@ use Rattle.forms.specs.declared.row.Row.{Row}
 use Rattle.forms.specs.Reading.{Reading, lifted, andThen, upTo, fieldAt, wordAt, fieldsAt, rowAt, rowsAt}
 use Rattle.forms.specs.Rows.{limitsOf, within, withinWord, fieldsOk, rowOk, placedOk}
 use Rattle.forms.specs.Rules.{blockOk}
-use Rattle.forms.proofs.Outcomes.{and-then-all, go-on-all}
+use Rattle.forms.proofs.Outcomes.{and-then-all, fields-all, go-on-all}
 
 number-up-to : (r : Result (Parsed ℕ) NumberFault) (highest at : ℕ) (p : Parsed ℕ) → andThen (lifted r) (upTo highest at) ≡ Ok p → leb (p .value) highest ≡ true
 number-up-to (Ok q) highest at p e = grind (arith, tells)
@@ -43,27 +43,17 @@ module _ (l : Limits) (kind : ℕ) (bytes : List ℕ) where
   fields-well : (at : ℕ) (p : Parsed Row) → fieldsAt l kind bytes at ≡ Ok p → Well p
   unfolding Well
   fields-well at =
-    and-then-all Well (fieldAt (l .o) bytes at) _ (λ o eo.
-    and-then-all Well (fieldAt (l .k) bytes (o .next)) _ (λ k ek.
-    and-then-all Well (fieldAt (l .d) bytes (k .next)) _ (λ d ed.
-    and-then-all Well (fieldAt (l .a) bytes (d .next)) _ (λ a ea.
-    and-then-all Well (fieldAt (l .b) bytes (a .next)) _ (λ b eb.
-    and-then-all Well (wordAt (l .c) bytes (b .next)) _ (λ c ec.
-    and-then-all Well (fieldAt (l .t) bytes (c .next)) _ (λ t et.
-    and-then-all Well (fieldAt (l .f) bytes (t .next)) _ (λ f ef p e.
-      let row : Row = record { kind = kind; o = o .value; d = d .value; a = a .value; b = b .value; k = k .value; c = c .value; t = t .value; f = f .value } in
-      let same : record { value = row; next = f .next } ≡ p = grind arith in
-      let good : fieldsOk l row ≡ true =
-          and-from _ _ (and-from _ _ (and-from _ _ (and-from _ _ (and-from _ _ (and-from _ _ (and-from _ _
-            (field-within (l .o) bytes at o eo)
-            (field-within (l .d) bytes (k .next) d ed))
-            (field-within (l .a) bytes (d .next) a ea))
-            (field-within (l .b) bytes (a .next) b eb))
-            (field-within (l .k) bytes (o .next) k ek))
-            (word-within (l .c) bytes (b .next) c ec))
-            (field-within (l .t) bytes (c .next) t et))
-            (field-within (l .f) bytes (t .next) f ef) in
-      subst Well same (refl, good)))))))))
+    fields-all Well l kind bytes at (λ o eo k ek d ed a ea b eb c ec t et f ef.
+      (refl,
+        and-from _ _ (and-from _ _ (and-from _ _ (and-from _ _ (and-from _ _ (and-from _ _ (and-from _ _
+          (field-within (l .o) bytes at o eo)
+          (field-within (l .d) bytes (k .next) d ed))
+          (field-within (l .a) bytes (d .next) a ea))
+          (field-within (l .b) bytes (a .next) b eb))
+          (field-within (l .k) bytes (o .next) k ek))
+          (word-within (l .c) bytes (b .next) c ec))
+          (field-within (l .t) bytes (c .next) t et))
+          (field-within (l .f) bytes (t .next) f ef)))
 
 -- a row that was read keeps the rules
 row-well : (last : ℕ) (bytes : List ℕ) (at : ℕ) (p : Parsed Row) → rowAt last bytes at ≡ Ok p → rowOk last (p .value) ≡ true
