@@ -5,7 +5,7 @@ use mathlib.Core.List.{List, [], _∷_, _++_}
 use Prim.Native.Nat.{ℕ, zero, suc, _+_, _-_, _^_, _≤_, _<_}
 use native.Mathlib.Omega.{arith}
 use lib.Dec.{leb, ltb}
-use lib.ListN.{length, getD, drop}
+use lib.ListN.{length, getD, take, drop}
 use Rattle.std.proofs.shelf.Lists.{append-assoc, append-nil, drop-drop, drop-at, length-drop}
 use Rattle.std.proofs.shelf.Tests.{and-parts, eqb-true, leb-true, le-leb, ltb-true, lt-ltb, le-ltb}
 use Rattle.std.specs.declared.option.Option.{Option}
@@ -20,11 +20,12 @@ use Rattle.forms.specs.declared.fault.FormFault.{FormFault}
 use Rattle.forms.specs.declared.fault.FormFault.the-variants.{Count}
 use Rattle.forms.specs.declared.limits.Limits.{Limits}
 use Rattle.forms.specs.declared.row.Row.{Row}
-use Rattle.forms.specs.Code.{rowsOf}
+use Rattle.forms.specs.Code.{Code, rowsOf, headOf}
 use Rattle.forms.specs.Reading.{Reading, lifted, andThen, upTo, fieldAt, wordAt, fieldsAt, rowAt, countIn, before, namesAt, storing, goOn, rowsAt, blockThen, blocksAt, closed}
 use Rattle.forms.specs.Rows.{fields, kinds, limitsOf, within, withinWord, fieldsOk, rowOk}
-use Rattle.forms.specs.Rules.{countOk, blockOk, allBelow}
-use Rattle.forms.specs.Writing.{fieldBytes, wordBytes, fieldsBytes, rowBytes, rowsBytes, blocksBytes, namesBytes, wordsOk, blocksKeep, Accepts}
+use Rattle.forms.specs.Rules.{countOk, blockOk, blocksOk, allBelow, countsOk, complete, entriesOk, headOk}
+use Rattle.forms.specs.Writing.{fieldBytes, wordBytes, fieldsBytes, rowBytes, rowsBytes, blocksBytes, namesBytes, wordsOk, allWords, Accepts}
+use Rattle.forms.proofs.Sound.{front}
 
 -- what is read is a value, and after it the rest stands
 record Reads {X : Type 0} (bytes : List ℕ) (r : Result (Parsed X) FormFault) (value : X) (rest : List ℕ) : Type 0 where
@@ -233,16 +234,16 @@ module _ (bytes : List ℕ) where
       (takes-both (λ r. andThen r (λ p. before (p .value) (go (p .next) .outcome))) t (takes-before rows u) .reads at rest e) }
 
   -- blocks that keep the rules, where there is room for their rows
-  blocks-take : (blocks : List (List Row)) (last room place : ℕ) → leb last 255 ≡ true → blocksKeep last place blocks ≡ true → place + rowsOf blocks ≤ room
+  blocks-take : (blocks : List (List Row)) (last room place : ℕ) → leb last 255 ≡ true → blocksOk last place blocks ≡ true → allWords blocks ≡ true → place + rowsOf blocks ≤ room
     → Takes bytes (λ at. blocksAt (length blocks) last room bytes at place .outcome) blocks (blocksBytes last blocks)
-  blocks-take [] last room place l g r = takes-none bytes []
-  blocks-take (block ∷ blocks) last room place l g r =
+  blocks-take [] last room place l g w r = takes-none bytes []
+  blocks-take (block ∷ blocks) last room place l g w r =
     let p = and-parts (countOk place (length block)) _ g in
-    let q = and-parts _ (blocksKeep last (place + length block) blocks) (p .1) in
-    let k = and-parts (blockOk last block) (wordsOk block) (q .0) in
+    let q = and-parts (blockOk last block) (blocksOk last (place + length block) blocks) (p .1) in
+    let k = and-parts (wordsOk block) (allWords blocks) w in
     takes-on _ (tested-takes (length block) _ (λ at next. rw (p .0) refl) (count-small place (length block) (p .0)))
       (block-takes (λ at. rowsAt (length block) last room bytes at place) block blocks (rowsBytes last block) (blocksBytes last blocks) (λ next. blocksAt (length blocks) last room bytes next (place + length block))
-        (rows-take block last room place l (k .0) (k .1) (omega arith)) (blocks-take blocks last room (place + length block) l (q .1) (omega arith)))
+        (rows-take block last room place l (q .0) (k .0) (omega arith)) (blocks-take blocks last room (place + length block) l (q .1) (k .1) (omega arith)))
 
   -- where nothing is left over, the code is what was read
   closes : (names : List ℕ) (blocks : List (List Row)) (next : ℕ) → drop next bytes ≡ [] → closed names bytes (record { value = blocks; next = next }) ≡ Ok (record { params = names; blocks = blocks })
@@ -250,18 +251,30 @@ module _ (bytes : List ℕ) where
     let z : length bytes - next ≡ 0 = sym (length-drop next bytes) ∙ ap length e in
     rw (le-ltb next (length bytes) (omega arith)) refl
 
+-- the head of a code that keeps the rules
+module _ (code : Code) (g : headOk (headOf code) ≡ true) where
+  counted : (1 ≤ length (code .blocks)) × (length (code .blocks) ≤ 64) × (length (code .params) ≤ 8)
+  counted =
+    let p = and-parts (countsOk (headOf code)) (complete (headOf code) && entriesOk (headOf code)) g .0 in
+    let q = and-parts (leb 1 (length (code .blocks))) (leb (length (code .blocks)) 64 && leb (length (code .params)) 8) p in
+    let r = and-parts (leb (length (code .blocks)) 64) (leb (length (code .params)) 8) (q .1) in
+    (leb-true 1 (length (code .blocks)) (q .0), leb-true (length (code .blocks)) 64 (r .0), leb-true (length (code .params)) 8 (r .1))
+
+  named : allBelow 64 (code .params) ≡ true
+  named =
+    let p = and-parts (complete (headOf code)) (entriesOk (headOf code)) (and-parts (countsOk (headOf code)) (complete (headOf code) && entriesOk (headOf code)) g .1) .1 in
+    let q = and-parts _ (allBelow 1 (drop (length (code .blocks)) (headOf code .counts))) p .0 in
+    let r = and-parts (allBelow 64 (take (length (code .params)) (headOf code .names))) (allBelow 1 (drop (length (code .params)) (headOf code .names))) q .0 in
+    sym (ap (allBelow 64) (front (code .params) (length (code .params)) 8 refl (counted .2))) ∙ r
+
 -- the bytes of a code that keeps the rules
 pub accepts-all : (bytes : List ℕ) (room : ℕ) → Accepts bytes room
-accepts-all bytes room code g e r =
-  let p = and-parts _ _ g in
-  let q = and-parts (leb 1 (length (code .blocks))) _ (p .0) in
-  let t = and-parts (leb (length (code .blocks)) 64) (leb (length (code .params)) 8) (q .1) in
-  let k = and-parts (allBelow 64 (code .params)) _ (p .1) in
-  let n = leb-true (length (code .blocks)) 64 (t .0) in
-  let m = leb-true (length (code .params)) 8 (t .1) in
-  reads-on code _ (count-takes bytes 1 64 (length (code .blocks)) (q .0) (t .0) (omega arith) .reads 0 _ e) (λ one e1.
-  reads-on code _ (count-takes bytes 0 8 (length (code .params)) (le-leb 0 (length (code .params)) (omega arith)) (t .1) (omega arith) .reads one _ e1) (λ two e2.
-  reads-on code _ (names-take bytes (code .params) (k .0) .reads two _ e2) (λ three e3.
+accepts-all bytes room code g w e r =
+  let p = and-parts (headOk (headOf code)) (blocksOk (length (code .blocks) - 1) 0 (code .blocks)) g in
+  let c = counted code (p .0) in
+  reads-on code _ (count-takes bytes 1 64 (length (code .blocks)) (le-leb 1 _ (c .0)) (le-leb _ 64 (c .1)) (omega arith) .reads 0 _ e) (λ one e1.
+  reads-on code _ (count-takes bytes 0 8 (length (code .params)) (le-leb 0 _ (omega arith)) (le-leb _ 8 (c .2)) (omega arith) .reads one _ e1) (λ two e2.
+  reads-on code _ (names-take bytes (code .params) (named code (p .0)) .reads two _ e2) (λ three e3.
   reads-to (λ x. andThen x (closed (code .params) bytes) ≡ Ok code)
-    (blocks-take bytes (code .blocks) (length (code .blocks) - 1) room 0 (le-leb _ 255 (omega arith)) (k .1) (omega arith) .reads three [] (e3 ∙ sym (append-nil (blocksBytes (length (code .blocks) - 1) (code .blocks))))) (λ four e4.
+    (blocks-take bytes (code .blocks) (length (code .blocks) - 1) room 0 (le-leb _ 255 (omega arith)) (p .1) w (omega arith) .reads three [] (e3 ∙ sym (append-nil (blocksBytes (length (code .blocks) - 1) (code .blocks))))) (λ four e4.
     closes bytes (code .params) (code .blocks) four e4))))

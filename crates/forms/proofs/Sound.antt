@@ -7,8 +7,10 @@ use native.Mathlib.Omega.{arith}
 use lib.Dec.{leb}
 use lib.ListN.{length, take, drop, replicate}
 use Rattle.std.proofs.shelf.Lists.{append-assoc, length-append, length-map, length-replicate, take-at, drop-at, drop-replicate}
+use Rattle.std.proofs.shelf.Sums.{sumBy-cons}
 use Rattle.std.proofs.shelf.Tests.{and-from, le-leb, leb-true, lt-ltb}
 use Rattle.std.proofs.shelf.Ways.{tells}
+use Rattle.std.specs.shelf.Lists.{sum}
 use Rattle.std.specs.declared.option.Option.the-variants.{Some}
 use Rattle.std.specs.declared.result.Result.{Result}
 use Rattle.std.specs.declared.result.Result.the-variants.{Ok, Err}
@@ -21,7 +23,7 @@ use Rattle.forms.specs.declared.row.Row.{Row}
 use Rattle.forms.specs.Buffers.{over}
 use Rattle.forms.specs.Code.{Code, cut, codeOf, headOf}
 use Rattle.forms.specs.Reading.{lifted, andThen, before, fieldAt, countIn, rowCountAt, namesAt, rowsAt, blocksAt, reading, rowsAfter, headAfter, Fills}
-use Rattle.forms.specs.Rules.{countOk, blocksOk, allBelow, headOk, formOk, filled}
+use Rattle.forms.specs.Rules.{countOk, blocksOk, allBelow, headOk, rowsOk, formOk}
 use Rattle.forms.proofs.Buffers.{length-over, over-start}
 use Rattle.forms.proofs.Outcomes.{and-then-all, go-on-all, before-all, block-then-all}
 use Rattle.forms.proofs.Wells.{Good, rows-good, field-within}
@@ -36,36 +38,30 @@ count-good (Err x) used at p e = absurd (grind arith)
 record Blocks (left last room place : ℕ) (stored : List Row) (blocks : List (List Row)) : Type 0 where
   many : length blocks ≡ left
   fits : place + length stored ≤ room
-  good : (rest : List Row) → blocksOk last place (map length blocks) (stored ++ rest) ≡ true
+  total : sum (map length blocks) ≡ length stored
+  good : blocksOk last place blocks ≡ true
   back : (rest : List Row) → cut (map length blocks) (stored ++ rest) ≡ blocks
 
 -- one block before the others
 module _ (left last room place count : ℕ) (rows more : List Row) (blocks : List (List Row))
   (c : countOk place count ≡ true) (g : Good count last room place rows) (s : Blocks left last room (place + count) more blocks) where
-  parted : (rest : List Row) → (rows ++ more) ++ rest ≡ rows ++ (more ++ rest)
-  parted rest = append-assoc rows more rest
-
-  lead-good : (rest : List Row) → blocksOk last place (length rows ∷ map length blocks) ((rows ++ more) ++ rest) ≡ true
-  lead-good rest =
-    rw (parted rest, take-at rows (more ++ rest) (length rows) refl, drop-at rows (more ++ rest) (length rows) refl, length-append rows (more ++ rest), g .long)
-      (and-from _ _ (and-from _ _ c (le-leb count (count + length (more ++ rest)) (omega arith))) (and-from _ _ (g .good) (s .good rest)))
-
   lead-back : (rest : List Row) → cut (length rows ∷ map length blocks) ((rows ++ more) ++ rest) ≡ rows ∷ blocks
   lead-back rest =
-    rw (parted rest, take-at rows (more ++ rest) (length rows) refl, drop-at rows (more ++ rest) (length rows) refl) (ap (λ (x : List (List Row)). rows ∷ x) (s .back rest))
+    rw (append-assoc rows more rest, take-at rows (more ++ rest) (length rows) refl, drop-at rows (more ++ rest) (length rows) refl) (ap (λ (x : List (List Row)). rows ∷ x) (s .back rest))
 
   lead : Blocks (suc left) last room place (rows ++ more) (rows ∷ blocks)
   lead = record {
     many = ap suc (s .many);
     fits = omega (arith, length-append rows more, g .long, s .fits);
-    good = lead-good;
+    total = omega (arith, sumBy-cons (λ x. x) (length rows) (map length blocks), length-append rows more, s .total);
+    good = rw (g .long) (and-from _ _ c (and-from _ _ (g .good) (s .good)));
     back = lead-back }
 
 blocks-sound : (left last room : ℕ) (bytes : List ℕ) (at place : ℕ) → place ≤ room
   → (p : Parsed (List (List Row))) → blocksAt left last room bytes at place .outcome ≡ Ok p → Blocks left last room place (blocksAt left last room bytes at place .stored) (p .value)
 blocks-sound zero last room bytes at place r = λ p e.
   let z : _≡_ {A = List (List Row)} [] (p .value) = grind arith in
-  subst (λ (b : List (List Row)). Blocks 0 last room place [] b) z (record { many = refl; fits = omega arith; good = λ rest. refl; back = λ rest. refl })
+  subst (λ (b : List (List Row)). Blocks 0 last room place [] b) z (record { many = refl; fits = omega arith; total = refl; good = refl; back = λ rest. refl })
 blocks-sound (suc left) last room bytes at place r =
   let P : List Row → Parsed (List (List Row)) → Type 0 = λ stored p. Blocks (suc left) last room place stored (p .value) in
   go-on-all P (rowCountAt place bytes at) _ (λ count ec.
@@ -105,7 +101,8 @@ record Read (room : ℕ) (stored : List Row) (code : Code) : Type 0 where
   params : length (code .params) ≤ 8
   names : allBelow 64 (code .params) ≡ true
   fits : length stored ≤ room
-  good : (rest : List Row) → blocksOk (length (code .blocks) - 1) 0 (map length (code .blocks)) (stored ++ rest) ≡ true
+  total : sum (map length (code .blocks)) ≡ length stored
+  good : blocksOk (length (code .blocks) - 1) 0 (code .blocks) ≡ true
   back : (rest : List Row) → cut (map length (code .blocks)) (stored ++ rest) ≡ code .blocks
 
 -- the parts that were read, put together
@@ -118,7 +115,8 @@ module _ (room n m : ℕ) (stored : List Row) (blocks : List (List Row)) (params
     params = omega (arith, t .many);
     names = t .good;
     fits = omega (arith, s .fits);
-    good = λ rest. rw (s .many) (s .good rest);
+    total = s .total;
+    good = rw (s .many) (s .good);
     back = s .back }
 
 read-sound : (bytes : List ℕ) (room : ℕ) (code : Code) → reading bytes room .outcome ≡ Ok code → Read room (reading bytes room .stored) code
@@ -144,7 +142,7 @@ module _ (items : List ℕ) (n size : ℕ) (l : length items ≡ n) (h : n ≤ s
   spread : over 0 items (replicate size 0) ≡ items ++ drop (length items) (replicate size 0)
   spread = over-start items (replicate size 0) (omega (arith, length-replicate {A = ℕ} size 0))
 
-  front : take n (over 0 items (replicate size 0)) ≡ items
+  pub front : take n (over 0 items (replicate size 0)) ≡ items
   front = ap (take n) spread ∙ take-at items (drop (length items) (replicate size 0)) n l
 
   unused : allBelow 1 (drop n (over 0 items (replicate size 0))) ≡ true
@@ -175,8 +173,13 @@ module _ (room : ℕ) (rows stored : List Row) (code : Code) (s : Read room stor
         (and-from _ _ (ap (allBelow 64) (front (code .params) (length (code .params)) 8 refl (s .params)) ∙ s .names) (unused (code .params) (length (code .params)) 8 refl (s .params)))
         (unused (map length (code .blocks)) (length (code .blocks)) 64 counts (s .few))))
 
+  rows-good-there : rowsOk (length (code .blocks) - 1) (map length (code .blocks)) (stored ++ drop (length stored) rows) ≡ true
+  rows-good-there =
+    and-from _ _ (le-leb (sum (map length (code .blocks))) (length (stored ++ drop (length stored) rows)) (omega (arith, s .total, length-append stored (drop (length stored) rows))))
+      (rw (s .back (drop (length stored) rows)) (s .good))
+
   form-good : formOk (over 0 stored rows) (headOf code) ≡ true
-  form-good = and-from _ _ head-good (rw (counts-front, written) (s .good (drop (length stored) rows)))
+  form-good = and-from _ _ head-good (rw (counts-front, written) rows-good-there)
 
   code-back : codeOf (over 0 stored rows) (headOf code) ≡ code
   code-back =

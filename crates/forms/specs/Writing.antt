@@ -3,7 +3,7 @@ use mathlib.Core.Path.{_≡_}
 use mathlib.Core.Bool.{Bool, true, cond, _&&_}
 use mathlib.Core.List.{List, [], _∷_, _++_}
 use Prim.Native.Nat.{ℕ, _+_, _-_, _^_, _≤_}
-use lib.Dec.{leb, ltb}
+use lib.Dec.{ltb}
 use lib.ListN.{length}
 use Rattle.std.specs.declared.option.Option.{Option}
 use Rattle.std.specs.declared.option.Option.the-variants.{None, Some}
@@ -14,7 +14,7 @@ use Rattle.forms.specs.declared.row.Row.{Row}
 use Rattle.forms.specs.Code.{Code, rowCount}
 use Rattle.forms.specs.Reading.{reading}
 use Rattle.forms.specs.Rows.{limitsOf}
-use Rattle.forms.specs.Rules.{countOk, blockOk, allBelow}
+use Rattle.forms.specs.Rules.{codeOk}
 
 -- A field is a number; one that the kind lacks is not written.
 abbrev pub fieldBytes : Option ℕ → ℕ → List ℕ
@@ -59,23 +59,17 @@ codeBytes code =
 abbrev pub IsWritten : List ℕ → ℕ → Type 0
 IsWritten bytes room = (code : Code) → reading bytes room .outcome ≡ Ok code → bytes ≡ codeBytes code
 
--- Each constant is a word.
+-- The constants of rows are words.
 abbrev pub wordsOk : List Row → Bool
 wordsOk [] = true
 wordsOk (r ∷ rows) = ltb (r .c) (2 ^ 64) && wordsOk rows
 
--- Each block has its number of rows, after `used` rows, and keeps the rules.
-abbrev pub blocksKeep : ℕ → ℕ → List (List Row) → Bool
-blocksKeep last used [] = true
-blocksKeep last used (block ∷ blocks) =
-  countOk used (length block) && ((blockOk last block && wordsOk block) && blocksKeep last (used + length block) blocks)
-
--- A code keeps the rules of forms.
-abbrev pub codeOk : Code → Bool
-codeOk code =
-  (leb 1 (length (code .blocks)) && (leb (length (code .blocks)) 64 && leb (length (code .params)) 8))
-  && (allBelow 64 (code .params) && blocksKeep (length (code .blocks) - 1) 0 (code .blocks))
+-- The constants of all blocks are.
+abbrev pub allWords : List (List Row) → Bool
+allWords [] = true
+allWords (block ∷ blocks) = wordsOk block && allWords blocks
 
 -- The bytes of every code that keeps the rules are read as that code, where there is room for its rows.
 abbrev pub Accepts : List ℕ → ℕ → Type 0
-Accepts bytes room = (code : Code) → codeOk code ≡ true → bytes ≡ codeBytes code → rowCount code ≤ room → reading bytes room .outcome ≡ Ok code
+Accepts bytes room =
+  (code : Code) → codeOk code ≡ true → allWords (code .blocks) ≡ true → bytes ≡ codeBytes code → rowCount code ≤ room → reading bytes room .outcome ≡ Ok code

@@ -1,7 +1,7 @@
 // Filling a form.
 ghost use mathlib.Core.Path.{_≡_};
 ghost use Rattle.forms.specs.Code.{giveZero};
-ghost use Rattle.forms.specs.Rules.{allBelow, blockOk, blocksOk, headOk, formOk, filled};
+ghost use Rattle.forms.specs.Rules.{allBelow, blockOk, rowsOk, headOk, formOk, filled};
 ghost use Rattle.forms.specs.View.{code, Holds};
 use crate::fault::FormFault;
 use crate::form::Form;
@@ -65,8 +65,8 @@ fn block_ok(rows: &[Row], last: u8) -> bool
     true
 }
 
-fn blocks_ok(rows: &[Row], counts: &[u8], last: u8) -> bool
-    ensures { λ r. ⌜ r ≡ blocksOk last 0 (now (counts .entry)) (now (rows .entry)) ⌝ }
+fn counted_ok(rows: &[Row], counts: &[u8], last: u8) -> bool
+    ensures { λ r. ⌜ r ≡ rowsOk last (now (counts .entry)) (now (rows .entry)) ⌝ }
 {
     let mut used = 0usize;
     for count in counts {
@@ -103,5 +103,5 @@ fn form_ok(rows: &[Row], head: &Head) -> bool
         return false;
     }
     let counts = &head.counts[..];
-    blocks_ok(rows, &counts[0..head.blocks as usize], head.blocks - 1)
+    counted_ok(rows, &counts[0..head.blocks as usize], head.blocks - 1)
 }
