@@ -1,3 +1,4 @@
 pub mod Fronts
+mod Lines
 pub mod Naming
 pub mod Numbers

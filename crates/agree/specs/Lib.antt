@@ -1,4 +1,5 @@
 pub mod Classes
+pub mod Cuts
 pub mod Digits
 pub mod Labels
 pub mod Storage

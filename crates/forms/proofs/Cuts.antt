@@ -50,6 +50,9 @@ module _ (rows : List Row) (head : Head) (sound : formOk rows head ≡ true) whe
     let q = and-parts (countsOk head) (complete head && entriesOk head) (p .0) in
     (q .0, and-parts (complete head) (entriesOk head) (q .1) .0)
 
+  pub some-blocks : 1 ≤ head .blocks
+  some-blocks = let p = parts .0 in grind (arith, tells)
+
   pub few-blocks : head .blocks ≤ 64
   few-blocks = let p = parts .0 in grind (arith, tells)
 

@@ -4,6 +4,7 @@ pub mod Canonical
 pub mod Checks
 pub mod Complete
 pub mod Cuts
+pub mod Keeps
 pub mod Names
 pub mod Outcomes
 pub mod Sound

@@ -94,12 +94,16 @@ count-in-good (Err x) low high at p e = absurd (grind arith)
 pub count-in-within : (low high : ℕ) (bytes : List ℕ) (at : ℕ) (p : Parsed ℕ) → countIn low high bytes at ≡ Ok p → (low ≤ p .value) × (p .value ≤ high)
 count-in-within low high bytes at p e = count-in-good (number bytes at) low high at p e
 
+-- what a code has whose head keeps the rules
+pub record Headed (code : Code) : Type 0 where
+  pub some : 1 ≤ length (code .blocks)
+  pub few : length (code .blocks) ≤ 64
+  pub params : length (code .params) ≤ 8
+  pub names : allBelow 64 (code .params) ≡ true
+
 -- what is known of a code that was read, with the rows stored for it
 record Read (room : ℕ) (stored : List Row) (code : Code) : Type 0 where
-  some : 1 ≤ length (code .blocks)
-  few : length (code .blocks) ≤ 64
-  params : length (code .params) ≤ 8
-  names : allBelow 64 (code .params) ≡ true
+  headed : Headed code
   fits : length stored ≤ room
   total : sum (map length (code .blocks)) ≡ length stored
   good : blocksOk (length (code .blocks) - 1) 0 (code .blocks) ≡ true
@@ -110,10 +114,7 @@ module _ (room n m : ℕ) (stored : List Row) (blocks : List (List Row)) (params
   (a : (1 ≤ n) × (n ≤ 64)) (b : (0 ≤ m) × (m ≤ 8)) (s : Blocks n (n - 1) room 0 stored blocks) (t : Names m params) where
   together : Read room stored (record { params = params; blocks = blocks })
   together = record {
-    some = omega (arith, s .many);
-    few = omega (arith, s .many);
-    params = omega (arith, t .many);
-    names = t .good;
+    headed = record { some = omega (arith, s .many); few = omega (arith, s .many); params = omega (arith, t .many); names = t .good };
     fits = omega (arith, s .fits);
     total = s .total;
     good = rw (s .many) (s .good);
@@ -154,17 +155,15 @@ module _ (items : List ℕ) (n size : ℕ) (l : length items ≡ n) (h : n ≤ s
   sized : n ≤ length (over 0 items (replicate size 0))
   sized = omega (arith, length-over 0 items (replicate size 0), length-replicate {A = ℕ} size 0)
 
-module _ (room : ℕ) (rows stored : List Row) (code : Code) (s : Read room stored code) (r : length rows ≡ room) where
+-- the head of such a code
+module _ (code : Code) (s : Headed code) where
   counts : length (map length (code .blocks)) ≡ length (code .blocks)
   counts = length-map (code .blocks) length
-
-  written : over 0 stored rows ≡ stored ++ drop (length stored) rows
-  written = over-start stored rows (omega (arith, s .fits))
 
   counts-front : take (length (code .blocks)) (over 0 (map length (code .blocks)) (replicate 64 0)) ≡ map length (code .blocks)
   counts-front = front (map length (code .blocks)) (length (code .blocks)) 64 counts (s .few)
 
-  head-good : headOk (headOf code) ≡ true
+  pub head-good : headOk (headOf code) ≡ true
   head-good =
     and-from _ _ (and-from _ _ (le-leb 1 (length (code .blocks)) (s .some)) (and-from _ _ (le-leb (length (code .blocks)) 64 (s .few)) (le-leb (length (code .params)) 8 (s .params))))
     (and-from _ _
@@ -173,18 +172,22 @@ module _ (room : ℕ) (rows stored : List Row) (code : Code) (s : Read room stor
         (and-from _ _ (ap (allBelow 64) (front (code .params) (length (code .params)) 8 refl (s .params)) ∙ s .names) (unused (code .params) (length (code .params)) 8 refl (s .params)))
         (unused (map length (code .blocks)) (length (code .blocks)) 64 counts (s .few))))
 
+module _ (room : ℕ) (rows stored : List Row) (code : Code) (s : Read room stored code) (r : length rows ≡ room) where
+  written : over 0 stored rows ≡ stored ++ drop (length stored) rows
+  written = over-start stored rows (omega (arith, s .fits))
+
   rows-good-there : rowsOk (length (code .blocks) - 1) (map length (code .blocks)) (stored ++ drop (length stored) rows) ≡ true
   rows-good-there =
     and-from _ _ (le-leb (sum (map length (code .blocks))) (length (stored ++ drop (length stored) rows)) (omega (arith, s .total, length-append stored (drop (length stored) rows))))
       (rw (s .back (drop (length stored) rows)) (s .good))
 
   form-good : formOk (over 0 stored rows) (headOf code) ≡ true
-  form-good = and-from _ _ head-good (rw (counts-front, written) rows-good-there)
+  form-good = and-from _ _ (head-good code (s .headed)) (rw (counts-front code (s .headed), written) rows-good-there)
 
   code-back : codeOf (over 0 stored rows) (headOf code) ≡ code
   code-back =
-    let p : take (length (code .params)) (over 0 (code .params) (replicate 8 0)) ≡ code .params = front (code .params) (length (code .params)) 8 refl (s .params) in
-    let b : cut (take (length (code .blocks)) (over 0 (map length (code .blocks)) (replicate 64 0))) (over 0 stored rows) ≡ code .blocks = rw (counts-front, written) (s .back (drop (length stored) rows)) in
+    let p : take (length (code .params)) (over 0 (code .params) (replicate 8 0)) ≡ code .params = front (code .params) (length (code .params)) 8 refl (s .headed .params) in
+    let b : cut (take (length (code .blocks)) (over 0 (map length (code .blocks)) (replicate 64 0))) (over 0 stored rows) ≡ code .blocks = rw (counts-front code (s .headed), written) (s .back (drop (length stored) rows)) in
     ap (λ (x : List ℕ). record { params = x; blocks = codeOf (over 0 stored rows) (headOf code) .blocks }) p
     ∙ ap (λ (x : List (List Row)). record { params = code .params; blocks = x }) b
 

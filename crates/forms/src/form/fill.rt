@@ -1,7 +1,8 @@
 // Filling a form.
+ghost use mathlib.Core.Bool.{true};
 ghost use mathlib.Core.Path.{_≡_};
 ghost use Rattle.forms.specs.Code.{giveZero};
-ghost use Rattle.forms.specs.Rules.{allBelow, blockOk, rowsOk, headOk, formOk, filled};
+ghost use Rattle.forms.specs.Rules.{allBelow, blockOk, rowsOk, headOk, codeOk, formOk, filled};
 ghost use Rattle.forms.specs.View.{code, Holds};
 use crate::fault::FormFault;
 use crate::form::Form;
@@ -29,10 +30,12 @@ impl<'r, 'h> Form<'r, 'h> {
         Form { rows: &ROWS, head: &HEAD }
     }
 
-    // Fills the form with lent rows and a lent head, or refuses them and leaves it.
+    // Fills the form with lent rows and a lent head, or refuses them and leaves it. Either way its code
+    // keeps the rules, as that of every form does.
     pub fn fill(&mut self, rows: &'r [Row], head: &'h Head) -> Result<(), FormFault>
         ensures result { λ r. ⌜ r ≡ filled (now (rows .entry)) (now (head .entry)) ⌝ }
         ensures form { λ r. ⌜ Holds r (now (self .entry)) (now (self .exit)) (rows .entry) (head .entry) ⌝ }
+        ensures keeps { λ _. ⌜ codeOk (code (now (self .exit))) ≡ true ⌝ }
     {
         if !form_ok(rows, head) {
             return Err(FormFault::NotAForm);
