@@ -1,9 +1,11 @@
-"""A model of the form reader: what a job file must answer.
+"""A model of the form reader and of the session: what a job file must
+answer. Banks are in banks.py.
 
     python3 model.py FILE
 """
 
 import sys
+import banks
 
 # Kinds of row: number -> (name, fields in the order written).
 # n a name, c a constant, o an operation, k a call number, t a block.
@@ -169,10 +171,11 @@ def show_lines(name, form):
 
 
 class Session:
-    """Carries out job lines one by one; holds the forms defined so far."""
+    """Carries out job lines one by one; holds the forms and banks defined
+    so far, by name."""
 
     def __init__(self):
-        self.forms = {}
+        self.objects = {}
 
     def answer(self, line):
         """The answer lines to one job line."""
@@ -181,9 +184,10 @@ class Session:
             return []
         if words[0] == "form" and len(words) >= 2:
             return self.define(words[1], words[2:])
+        if words[0] in banks.JOBS:
+            return banks.answer(self.objects, words)
         if words[0] == "show" and len(words) == 2:
-            # The rules give no answer for an undefined name: KeyError.
-            return show_lines(words[1], self.forms[words[1]])
+            return self.show(words[1])
         raise ValueError("no such job: " + line)
 
     def define(self, name, words):
@@ -198,8 +202,15 @@ class Session:
         except Refused as refused:
             return ["form %s: refused %d side 0 place %d rows 0 0 stored %d"
                     % (name, refused.number, refused.place, len(buffer))]
-        self.forms[name] = form
+        self.objects[name] = form
         return ["form %s: %s" % (name, form.summary())]
+
+    def show(self, name):
+        # The rules give no answer for an undefined name: KeyError.
+        thing = self.objects[name]
+        if banks.is_bank(thing):
+            return banks.show_lines(name, thing)
+        return show_lines(name, thing)
 
 
 def carry_out(job_text):
