@@ -3,8 +3,9 @@
     python3 table.py
 
 The program is run with `--demo` and `-`: the demonstration, then all jobs of
-crates/agree/stdin. The answers are the model's; those of chance.jobs come from
-another model, and this one has to agree with them or nothing is written.
+crates/agree/stdin. The answers are the model's; those of chance.jobs and
+bank-chance.jobs come from another model, and this one has to agree with them
+or nothing is written.
 """
 
 import os
@@ -12,6 +13,14 @@ import model
 
 HERE = os.path.dirname(os.path.abspath(__file__))
 AGREE = os.path.join(HERE, "..", "crates", "agree")
+
+# Tables in the order in which they are run; the answers of another model.
+TABLES = [
+    ("read.jobs", None),
+    ("chance.jobs", "chance.answers"),
+    ("bank.jobs", None),
+    ("bank-chance.jobs", "bank-chance.answers"),
+]
 
 
 def text(name):
@@ -24,10 +33,22 @@ def write(name, content):
         file.write(content)
 
 
-jobs = text("read.jobs") + text("chance.jobs")
-answers = model.carry_out(text("read.jobs")) + text("chance.answers")
-if model.carry_out(jobs) != answers:
-    raise SystemExit("the models differ on chance.jobs")
+def prints(line):
+    return line.split()[:1] in (["form"], ["bank"], ["show"])
+
+
+jobs = ""
+answers = ""
+for table, other in TABLES:
+    own = model.carry_out(text(table))
+    if other is not None and text(other) != own:
+        raise SystemExit("the models differ on " + table)
+    jobs += text(table)
+    answers += own
+answers = model.carry_out(text("demo.jobs")) + answers
+# All are run one after the other, with the names left from those before.
+if model.carry_out(text("demo.jobs") + jobs) != answers:
+    raise SystemExit("a table is answered otherwise after those before it")
 write("stdin", jobs)
-write("stdout", model.carry_out(text("demo.jobs")) + answers)
-print("%d jobs" % sum(line.startswith(("form", "show")) for line in jobs.split("\n")))
+write("stdout", answers)
+print("%d jobs" % sum(prints(line) for line in jobs.split("\n")))
