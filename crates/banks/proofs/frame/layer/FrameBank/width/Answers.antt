@@ -1,0 +1,12 @@
+use mathlib.Core.Path.{_∙_}
+use native.Mathlib.Omega.{arith}
+use Rattle.banks.specs.Frame.{over}
+use Rattle.banks.specs.Of.{tableOf}
+use Rattle.banks.proofs.Frames.{slot-width, past-width}
+use Rattle.banks.proofs.frame.layer.FrameBank.width.Needs as need
+
+pub returns-then-a-lt64 : need.returns-then-a-lt64
+returns-then-a-lt64 g c = c .width-then-a-lt64 .ensures ∙ slot-width (g .B·Bank .kind) (over (g .B·Bank .kind) (g .B·Bank .meaning (c .args .self .now .below)) (tableOf (c .args .self .now .slots))) (c .names-n .result) (c .args .a) (c .names-n .ensures) (omega arith) (omega arith)
+
+pub returns-else-a-lt64 : need.returns-else-a-lt64
+returns-else-a-lt64 g c = past-width (g .B·Bank .kind) (over (g .B·Bank .kind) (g .B·Bank .meaning (c .args .self .now .below)) (tableOf (c .args .self .now .slots))) (c .names-n .result) (c .args .a) (c .names-n .ensures) (omega arith) (omega arith)

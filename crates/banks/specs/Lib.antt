@@ -1,0 +1,11 @@
+pub mod Either
+pub mod Frame
+pub mod Kind
+pub mod Made
+pub mod Nested
+pub mod Of
+pub mod Paired
+pub mod Refusals
+pub mod Table
+pub mod Variables
+pub mod Words
