@@ -14,8 +14,9 @@ use Rattle.std.specs.declared.option.Option.the-variants.{Some, None}
 use Rattle.banks.specs.declared.fault.BankFault.{BankFault}
 use Rattle.banks.specs.declared.fault.BankFault.the-variants.{Names}
 use Rattle.banks.specs.Kind.{Description, Kind, Described, Laws, isWidth}
+use Rattle.banks.specs.Firsts.{_otherwise_}
 use Rattle.banks.specs.Frame.{withSlots, named, Framed, over, namesBelow, slotsOf, withBelow, withSlotWords, frame}
-use Rattle.banks.specs.Made.{tableFault, firstFault, frameFault}
+use Rattle.banks.specs.Made.{tableFault, frameFault}
 use Rattle.banks.specs.Table.{Table, allWidths, cellLook, tablePut}
 use Rattle.banks.specs.Words.{lowest}
 use Rattle.banks.proofs.Splits.{by-order}
@@ -56,7 +57,7 @@ slots-described d ws D good few = record {
 
 -- Slots that are a table and all get a name are not refused.
 pub no-fault : (n : ℕ) (ws : List ℕ) → None ≡ tableFault 32 ws → n + length ws ≤ 64 → None ≡ frameFault n ws
-no-fault n ws e h = ap (λ (o : Option BankFault). firstFault o None) e ∙ ap (firstFault (tableFault 32 ws)) (sym (cond-true (leb (n + length ws) 64) None (Some Names) (le-leb (n + length ws) 64 h)))
+no-fault n ws e h = ap (λ (o : Option BankFault). o otherwise None) e ∙ ap (λ (o : Option BankFault). tableFault 32 ws otherwise o) (sym (cond-true (leb (n + length ws) 64) None (Some Names) (le-leb (n + length ws) 64 h)))
 
 -- A frame all of whose slots get a name is described as it was declared.
 pub as-declared : (k : Kind) (m : Framed k) (ws : List ℕ) → m .slots .widths ≡ ws → namesBelow k m + length ws ≤ 64 → frame k .describe m ≡ withSlots (k .describe (m .below)) ws

@@ -1,6 +1,9 @@
+pub mod Bits
 pub mod Eithers
+pub mod Fitting
 pub mod Frames
 pub mod Nests
+pub mod Outlined
 pub mod Pairs
 pub mod Splits
 pub mod Tables

@@ -1,9 +1,13 @@
+pub mod Cases
 pub mod Either
+pub mod Firsts
+pub mod Fits
 pub mod Frame
 pub mod Kind
 pub mod Made
 pub mod Nested
 pub mod Of
+pub mod Outlines
 pub mod Paired
 pub mod Refusals
 pub mod Table

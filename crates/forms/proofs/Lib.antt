@@ -5,6 +5,7 @@ pub mod Checks
 pub mod Complete
 pub mod Cuts
 pub mod Keeps
+pub mod Kept
 pub mod Names
 pub mod Outcomes
 pub mod Sound
