@@ -13,10 +13,11 @@ use Rattle.std.proofs.shelf.Tests.{eq-eqb, ne-eqb, cond-true, cond-false}
 use Rattle.std.specs.declared.option.Option.{Option}
 use Rattle.std.specs.declared.option.Option.the-variants.{Some, None}
 use Rattle.forms.specs.declared.row.Row.{Row}
+use Rattle.forms.specs.Code.{Code}
 use Rattle.banks.specs.declared.misfit.FitFault.{FitFault}
 use Rattle.banks.specs.declared.misfit.Side.{Side}
 use Rattle.banks.specs.Firsts.{_otherwise_}
-use Rattle.banks.specs.Fits.{widthsFit, unfitRow, unfitBlock}
+use Rattle.banks.specs.Fits.{widthsFit, unfitRow, unfitBlock, unfitParameter, unfit}
 use Rattle.banks.specs.Kind.{Description}
 use Rattle.banks.specs.Words.{lowest}
 use Rattle.banks.proofs.Splits.{by-order}
@@ -49,16 +50,25 @@ module _ {X F : Type 0} (first : ℕ → List X → Option F) (good : X → Bool
   pub first-none : length xs ≤ i → None ≡ first 0 xs
   first-none h = sym (at-none i) ∙ sym (at-drop-all (first i) xs i h) ∙ left
 
--- The loop over blocks: what is left answers for all.
+-- The loop over blocks: what is left answers for all. `rows` is the block at b, as the form told it.
 module _ (d : Description) (side : Side) (blocks : List (List Row)) (b : ℕ) (left : unfitBlock d side b (drop b blocks) ≡ unfitBlock d side 0 blocks) where
-  one-block : b < length blocks → unfitBlock d side 0 blocks ≡ (unfitRow d side b 0 (getD blocks b []) otherwise unfitBlock d side (b + 1) (drop (b + 1) blocks))
-  one-block h = sym left ∙ at-drop-more (unfitBlock d side b) blocks b [] h
+  module _ (rows : List Row) (e : rows ≡ getD blocks b []) (h : b < length blocks) where
+    one-block : unfitBlock d side 0 blocks ≡ (unfitRow d side b 0 rows otherwise unfitBlock d side (b + 1) (drop (b + 1) blocks))
+    one-block = sym left ∙ at-drop-more (unfitBlock d side b) blocks b [] h ∙ ap (λ l. unfitRow d side b 0 l otherwise unfitBlock d side (b + 1) (drop (b + 1) blocks)) (sym e)
 
-  pub block-found : (e : FitFault) → b < length blocks → Some e ≡ unfitRow d side b 0 (getD blocks b []) → Some e ≡ unfitBlock d side 0 blocks
-  block-found e h s = sym (one-block h ∙ ap (λ o. o otherwise unfitBlock d side (b + 1) (drop (b + 1) blocks)) (sym s))
+    pub block-found : (fault : FitFault) → Some fault ≡ unfitRow d side b 0 rows → Some fault ≡ unfitBlock d side 0 blocks
+    block-found fault s = sym (one-block ∙ ap (λ o. o otherwise unfitBlock d side (b + 1) (drop (b + 1) blocks)) (sym s))
 
-  pub block-passed : b < length blocks → None ≡ unfitRow d side b 0 (getD blocks b []) → unfitBlock d side (b + 1) (drop (b + 1) blocks) ≡ unfitBlock d side 0 blocks
-  block-passed h s = sym (one-block h ∙ ap (λ o. o otherwise unfitBlock d side (b + 1) (drop (b + 1) blocks)) (sym s))
+    pub block-passed : None ≡ unfitRow d side b 0 rows → unfitBlock d side (b + 1) (drop (b + 1) blocks) ≡ unfitBlock d side 0 blocks
+    block-passed s = sym (one-block ∙ ap (λ o. o otherwise unfitBlock d side (b + 1) (drop (b + 1) blocks)) (sym s))
 
   pub blocks-none : length blocks ≤ b → None ≡ unfitBlock d side 0 blocks
   blocks-none h = sym (at-drop-all (unfitBlock d side b) blocks b h) ∙ left
+
+-- A form does not fit where a row does not; where all rows do, its parameters decide.
+module _ (d : Description) (side : Side) (code : Code) where
+  pub unfit-by-row : (fault : FitFault) → Some fault ≡ unfitBlock d side 0 (code .blocks) → Some fault ≡ unfit d side code
+  unfit-by-row fault e = ap (λ o. o otherwise unfitParameter d side 0 (code .params)) e
+
+  pub unfit-by-parameter : (params : List ℕ) → params ≡ code .params → None ≡ unfitBlock d side 0 (code .blocks) → unfitParameter d side 0 params ≡ unfit d side code
+  unfit-by-parameter params p e = ap (unfitParameter d side 0) p ∙ ap (λ o. o otherwise unfitParameter d side 0 (code .params)) e

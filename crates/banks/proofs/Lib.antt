@@ -2,6 +2,7 @@ pub mod Bits
 pub mod Eithers
 pub mod Fitting
 pub mod Frames
+pub mod Fronts
 pub mod Nests
 pub mod Outlined
 pub mod Pairs

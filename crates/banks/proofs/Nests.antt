@@ -5,7 +5,7 @@ use mathlib.Core.List.{List}
 use native.Mathlib.Omega.{arith}
 use native.Mathlib.Nat.{mod-mod}
 use lib.Dec.{eqb, ltb, leb}
-use lib.ListN.{length, getD, set, length-set}
+use lib.ListN.{length, getD, set}
 use Prim.Native.Nat.{ℕ, zero, suc, _+_, _-_, _<_, _≤_, _/_, _%_, _^_, _*_}
 use Rattle.std.proofs.shelf.Tests.{false≢true, lt-ltb, le-ltb, eq-eqb, cond-true, cond-false, and-parts, leb-true}
 use Rattle.std.proofs.shelf.Lists.{getD-set-same, getD-set-other}
@@ -76,24 +76,3 @@ units-set l a w v i e = fun-ext (λ u. by-equal (a / 4) u (here u) (there u))
 
     there : (u : ℕ) → (a / 4 ≡ u → ⊥) → eqb (a / 4) u ≡ false → getD (set l (a / 4) v) u 0 ≡ nestedPut (λ u. getD l u 0) a w u
     there u n t = getD-set-other l (a / 4) u v 0 (λ q. n (sym q)) ∙ sym (simp t)
-
--- The first n units of a list are lost: what the loops over units keep.
-abbrev pub Lost : List ℕ → ℕ → ℕ → List ℕ → Type 0
-Lost old w n l = (length l ≡ 8) × ((k : ℕ) → getD l k 0 ≡ lostUnits n (λ u. getD old u 0) w k)
-
-module _ (old : List ℕ) (w : ℕ) where
-  pub lost-none : length old ≡ 8 → Lost old w 0 old
-  lost-none h = (h, λ k. sym (cond-false (ltb k 0) w (getD old k 0) (le-ltb k 0 (omega arith))))
-
-  -- One more unit is lost.
-  pub lost-more : (l : List ℕ) (u : ℕ) → u < 8 → Lost old w u l → Lost old w (u + 1) (set l u w)
-  lost-more l u i h = (length-set l u w ∙ h .0, λ k. by-equal u k (here k) (there k))
-    where
-      here : (k : ℕ) → u ≡ k → eqb u k ≡ true → getD (set l u w) k 0 ≡ lostUnits (u + 1) (λ u. getD old u 0) w k
-      here k q t = subst (λ (k : ℕ). getD (set l u w) k 0 ≡ w) q (getD-set-same l u w 0 (omega (arith, h .0))) ∙ sym (cond-true (ltb k (u + 1)) w (getD old k 0) (lt-ltb k (u + 1) (omega arith)))
-
-      there : (k : ℕ) → (u ≡ k → ⊥) → eqb u k ≡ false → getD (set l u w) k 0 ≡ lostUnits (u + 1) (λ u. getD old u 0) w k
-      there k n t = getD-set-other l u k w 0 (λ q. n (sym q)) ∙ h .1 k ∙ ap (λ (b : Bool). cond b w (getD old k 0)) (grind (arith, tells))
-
-  pub lost-units : (n u : ℕ) (l : List ℕ) → u ≡ n → Lost old w u l → _≡_ {A = ℕ → ℕ} (λ k. getD l k 0) (lostUnits n (λ u. getD old u 0) w)
-  lost-units n u l e h = fun-ext (h .1) ∙ ap (λ (m : ℕ). lostUnits m (λ u. getD old u 0) w) e

@@ -2,7 +2,6 @@
 use mathlib.Core.Path.{_≡_, refl, sym, ap, ap₂, subst, _∙_, fun-ext}
 use mathlib.Core.Bool.{Bool, true, false, cond, _&&_}
 use mathlib.Core.List.{List}
-use mathlib.Core.Logic.{⊎-elim}
 use native.Mathlib.Omega.{arith}
 use native.Mathlib.Nat.{add-zero, le-trans, lt-of-lt-of-le}
 use lib.Dec.{eqb, ltb, leb}
@@ -11,12 +10,12 @@ use lib.Pow.{pow-mono}
 use Prim.Native.Nat.{ℕ, zero, suc, _+_, _-_, _<_, _≤_, _/_, _%_, _^_, _*_}
 use Rattle.std.proofs.shelf.Bits.{pow-add, mod-pow-add, shr-shr}
 use Rattle.std.proofs.shelf.Lists.{getD-set-same, getD-set-other}
-use Rattle.std.proofs.shelf.Tests.{false≢true, le-ltb, leb-true, and-parts, cases-bool, cond-true, cond-false}
+use Rattle.std.proofs.shelf.Tests.{false≢true, le-ltb, leb-true, and-parts, cond-true, cond-false}
 use Rattle.std.proofs.shelf.Ways.{tells}
 use Rattle.banks.specs.Kind.{Described, Laws}
-use Rattle.banks.specs.Paired.{firstCell, cellsOf, among, overlap, pairedDescription, numberIn, writtenIn, lostCells, paired}
+use Rattle.banks.specs.Paired.{firstCell, cellsOf, among, overlap, pairedDescription, TouchByCells, numberIn, writtenIn, lostCells, paired}
 use Rattle.banks.specs.Words.{byteOf}
-use Rattle.banks.proofs.Splits.{by-equal}
+use Rattle.banks.proofs.Splits.{by-order, by-equal}
 
 -- What some cells hold.
 
@@ -62,47 +61,40 @@ module _ (cells : ℕ → ℕ) (s n w : ℕ) where
   written-there : (c : ℕ) → among s n c ≡ false → writtenIn cells s n w c ≡ cells c
   written-there c h = cond-false (among s n c) (byteOf w (c - s)) (cells c) h
 
-pub rest-more : (w i rest : ℕ) → rest ≡ w / 2 ^ (8 * i) → rest / 256 ≡ w / 2 ^ (8 * (i + 1))
-rest-more w i rest e = ap (λ (x : ℕ). x / 256) e ∙ shr-shr w (8 * i) 8 ∙ ap (λ (k : ℕ). w / 2 ^ k) (omega arith)
-
 pub written-none : (cells : ℕ → ℕ) (s w c : ℕ) → cells c ≡ writtenIn cells s 0 w c
 written-none cells s w c = sym (written-there cells s 0 w c (grind (arith, tells)))
 
-pub written-more : (l : List ℕ) (cells : ℕ → ℕ) (s i w rest : ℕ) → s + i < length l → rest ≡ w / 2 ^ (8 * i) → ((c : ℕ) → getD l c 0 ≡ writtenIn cells s i w c) → (c : ℕ) → getD (set l (s + i) (rest % 256)) c 0 ≡ writtenIn cells s (i + 1) w c
-written-more l cells s i w rest m e h c = by-equal (s + i) c here there
+-- One more byte is written.
+pub written-more : (l : List ℕ) (cells : ℕ → ℕ) (s i w : ℕ) → s + i < length l → ((c : ℕ) → getD l c 0 ≡ writtenIn cells s i w c)
+  → (b : ℕ) → b ≡ byteOf w i → (c : ℕ) → getD (set l (s + i) b) c 0 ≡ writtenIn cells s (i + 1) w c
+written-more l cells s i w m h b e c = by-equal (s + i) c here there
   where
-    here : s + i ≡ c → eqb (s + i) c ≡ true → getD (set l (s + i) (rest % 256)) c 0 ≡ writtenIn cells s (i + 1) w c
-    here q t = subst (λ (c : ℕ). getD (set l (s + i) (rest % 256)) c 0 ≡ writtenIn cells s (i + 1) w c) q (getD-set-same l (s + i) (rest % 256) 0 m ∙ ap (λ (x : ℕ). x % 256) e ∙ sym (written-here cells s (i + 1) w i (omega arith)))
+    here : s + i ≡ c → eqb (s + i) c ≡ true → getD (set l (s + i) b) c 0 ≡ writtenIn cells s (i + 1) w c
+    here q t = subst (λ (c : ℕ). getD (set l (s + i) b) c 0 ≡ writtenIn cells s (i + 1) w c) q (getD-set-same l (s + i) b 0 m ∙ e ∙ sym (written-here cells s (i + 1) w i (omega arith)))
 
-    there : (s + i ≡ c → ⊥) → eqb (s + i) c ≡ false → getD (set l (s + i) (rest % 256)) c 0 ≡ writtenIn cells s (i + 1) w c
-    there n t = getD-set-other l (s + i) c (rest % 256) 0 (λ q. n (sym q)) ∙ h c ∙ ap (λ (b : Bool). cond b (byteOf w (c - s)) (cells c)) (grind (arith, tells))
-
--- Eight cells more are lost: the word was written into them.
-lost-more : (cells : ℕ → ℕ) (n w : ℕ) → n % 8 ≡ 0 → (c : ℕ) → writtenIn (lostCells n cells w) n 8 w c ≡ lostCells (n + 8) cells w c
-lost-more cells n w e c = ⊎-elim inside outside (cases-bool (among n 8 c))
-  where
-    inside : among n 8 c ≡ true → writtenIn (lostCells n cells w) n 8 w c ≡ lostCells (n + 8) cells w c
-    inside t =
-      let place : c - n ≡ c % 8 = grind (arith, tells) in
-      let low : ltb c (n + 8) ≡ true = grind (arith, tells) in
-      cond-true (among n 8 c) (byteOf w (c - n)) (lostCells n cells w c) t ∙ ap (λ (k : ℕ). byteOf w k) place ∙ sym (cond-true (ltb c (n + 8)) (byteOf w (c % 8)) (cells c) low)
-
-    outside : among n 8 c ≡ false → writtenIn (lostCells n cells w) n 8 w c ≡ lostCells (n + 8) cells w c
-    outside t =
-      cond-false (among n 8 c) (byteOf w (c - n)) (lostCells n cells w c) t ∙ ap (λ (b : Bool). cond b (byteOf w (c % 8)) (cells c)) (grind (arith, tells))
-
-lost-none : (cells : ℕ → ℕ) (w : ℕ) → cells ≡ lostCells 0 cells w
-lost-none cells w = fun-ext (λ c. sym (cond-false (ltb c 0) (byteOf w (c % 8)) (cells c) (le-ltb c 0 (omega arith))))
-
-pub lost-half : (cells : ℕ → ℕ) (w : ℕ) → writtenIn cells 0 8 w ≡ lostCells 8 cells w
-lost-half cells w = ap (λ (x : ℕ → ℕ). writtenIn x 0 8 w) (lost-none cells w) ∙ fun-ext (lost-more cells 0 w refl)
-
-pub lost-all : (cells : ℕ → ℕ) (w : ℕ) → writtenIn (writtenIn cells 0 8 w) 8 8 w ≡ lostCells 16 cells w
-lost-all cells w = ap (λ (x : ℕ → ℕ). writtenIn x 8 8 w) (lost-half cells w) ∙ fun-ext (lost-more cells 8 w refl)
+    there : (s + i ≡ c → ⊥) → eqb (s + i) c ≡ false → getD (set l (s + i) b) c 0 ≡ writtenIn cells s (i + 1) w c
+    there n t = getD-set-other l (s + i) c b 0 (λ q. n (sym q)) ∙ h c ∙ ap (λ (x : Bool). cond x (byteOf w (c - s)) (cells c)) (grind (arith, tells))
 
 -- Names that share no cell lie apart.
 apart : (s n t m c : ℕ) → overlap s n t m ≡ false → t ≤ c → c < t + m → among s n c ≡ false
 apart s n t m c h l k = grind (arith, tells)
+
+-- Names that overlap share a cell: the later of their first ones. What is no name has no cell, and stands at 0.
+shared-cell : (s n t m : ℕ) → (n ≡ 0 → s ≡ 0) → (m ≡ 0 → t ≡ 0) → overlap s n t m ≡ true → (c : ℕ) × ((among s n c ≡ true) × (among t m c ≡ true))
+shared-cell s n t m zs zt h = by-order s t
+  (λ l e. (t, (grind (arith, tells), grind (arith, tells))))
+  (λ l e. (s, (grind (arith, tells), grind (arith, tells))))
+
+no-cells : (a : ℕ) → cellsOf a ≡ 0 → firstCell a ≡ 0
+no-cells a h = grind (arith, tells)
+
+meet : (s n t m c : ℕ) → among s n c ≡ true → among t m c ≡ true → overlap s n t m ≡ true
+meet s n t m c h l = grind (arith, tells)
+
+pub touch-by-cells : TouchByCells
+touch-by-cells a b = (
+  shared-cell (firstCell a) (cellsOf a) (firstCell b) (cellsOf b) (no-cells a) (no-cells b),
+  λ p. meet (firstCell a) (cellsOf a) (firstCell b) (cellsOf b) (p .0) (p .1 .0) (p .1 .1))
 
 paired-described : Described pairedDescription
 paired-described = record {

@@ -10,21 +10,21 @@ use Rattle.banks.specs.declared.either.Either.the-variants.{First, Second}
 use Rattle.banks.specs.declared.nested.Nested.{Nested}
 use Rattle.banks.specs.declared.paired.Paired.{Paired}
 
+-- A list of numbers, by their places.
+abbrev pub byPlace : List ℕ → (ℕ → ℕ)
+byPlace numbers = λ i. getD numbers i 0
+
 -- Cells are a table of as many widths as they count.
 abbrev pub tableOf : Cells → Table
-tableOf cells = record { widths = take (cells .count) (cells .widths); words = λ a. getD (cells .words) a 0; sound = cells .sound .2 }
+tableOf cells = record { widths = take (cells .count) (cells .widths); words = byPlace (cells .words); sound = cells .sound .2 }
 
 -- The words of the units.
 abbrev pub unitsOf : Nested → (ℕ → ℕ)
-unitsOf bank = λ u. getD (bank .units) u 0
-
--- A list of bytes, by their places.
-abbrev pub bytesOf : List ℕ → (ℕ → ℕ)
-bytesOf bytes = λ c. getD bytes c 0
+unitsOf bank = byPlace (bank .units)
 
 -- The bytes of the cells.
-abbrev pub cellsIn : Paired → (ℕ → ℕ)
-cellsIn bank = bytesOf (bank .cells)
+abbrev pub bytesOf : Paired → (ℕ → ℕ)
+bytesOf bank = byPlace (bank .cells)
 
 -- What the one of two banks means that it is.
 abbrev pub chosen : {A B X Y : Type 0} → (A → X) → (B → Y) → Either A B → X ⊎ Y

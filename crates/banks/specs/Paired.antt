@@ -1,7 +1,9 @@
 -- Paired: one-byte cells 0 to 15, lowest first. Names are the cells, the aligned pairs, the aligned fours and the halves.
-use mathlib.Core.Bool.{Bool, false, _&&_, cond}
+use mathlib.Core.Path.{_≡_}
+use mathlib.Core.Bool.{Bool, true, false, _&&_, cond}
 use Prim.Native.Nat.{ℕ, zero, suc, _+_, _-_, _*_, _%_}
 use lib.Dec.{leb, ltb}
+use Rattle.std.specs.Orderings.{Decides}
 use Rattle.banks.specs.Kind.{Description, Kind}
 use Rattle.banks.specs.Words.{byteOf}
 
@@ -29,6 +31,14 @@ pairedDescription = record {
   touches = λ a b. overlap (firstCell a) (cellsOf a) (firstCell b) (cellsOf b);
   keptOverCall = λ a. ltb a 30 && leb 8 (firstCell a);
   keptOverPause = λ a. false }
+
+-- A cell is one of a name's.
+abbrev pub HasCell : ℕ → ℕ → Type 0
+HasCell a c = among (firstCell a) (cellsOf a) c ≡ true
+
+-- Two names touch exactly if they share a cell.
+abbrev pub TouchByCells : Type 0
+TouchByCells = (a b : ℕ) → Decides (pairedDescription .touches a b) ((c : ℕ) × (HasCell a c × HasCell b c))
 
 -- The number that n cells from `first` on hold, the lowest first.
 abbrev pub numberIn : (ℕ → ℕ) → ℕ → ℕ → ℕ

@@ -40,6 +40,10 @@ pub use nested::NestedBank;
 pub use outline::Outline;
 pub use paired::Paired;
 pub use paired::PairedBank;
+pub use paired::touch_by_cells;
 pub use variables::Variables;
 pub use variables::VariablesBank;
 pub use words::low_bytes;
+
+#[cfg(test)]
+mod tests;

@@ -1,7 +1,9 @@
 // Nested: eight units of eight bytes, each with names for its lowest 1, 2, 4 and 8 bytes.
 ghost use mathlib.Core.Path.{_≡_};
-ghost use Rattle.banks.specs.Nested.{nested, nestedWidth, unitAfter, nestedFrom};
-ghost use Rattle.banks.specs.Of.{unitsOf};
+ghost use Prim.Native.Nat.{_≤_};
+ghost use lib.ListN.{length};
+ghost use Rattle.banks.specs.Nested.{nested, nestedWidth, unitAfter, lostUnits, nestedFrom};
+ghost use Rattle.banks.specs.Of.{byPlace, unitsOf};
 use crate::bank::Bank;
 use crate::words::low_bytes;
 
@@ -27,6 +29,16 @@ fn unit_after(width: u8, old: u64, w: u64) -> u64
         1 => old / 256 * 256 + w % 256,
         2 => old / 65536 * 65536 + w % 65536,
         _ => low_bytes(w, width),
+    }
+}
+
+// The first n units are lost: each becomes the word.
+fn lose(units: &mut [u64], n: usize, w: u64)
+    requires { ⌜ n ≤ length (now units) ⌝ }
+    ensures { λ _. ⌜ byPlace (now (units .exit)) ≡ lostUnits n (byPlace (now (units .entry))) w ⌝ }
+{
+    for u in 0..n {
+        units[u] = w;
     }
 }
 
@@ -76,14 +88,10 @@ pub impl Bank for Nested as NestedBank {
     }
 
     fn lose_at_call(&mut self, w: u64) {
-        for u in 0..4 {
-            self.units[u] = w;
-        }
+        lose(&mut self.units, 4, w);
     }
 
     fn lose_at_pause(&mut self, w: u64) {
-        for u in 0..8 {
-            self.units[u] = w;
-        }
+        lose(&mut self.units, 8, w);
     }
 }

@@ -1,9 +1,10 @@
 // Paired: sixteen cells of one byte, with names for cells, pairs, fours and halves.
 ghost use mathlib.Core.Path.{_≡_};
-ghost use Prim.Native.Nat.{_+_, _≤_};
+ghost use Prim.Native.Nat.{_+_, _<_, _≤_};
 ghost use lib.ListN.{length};
-ghost use Rattle.banks.specs.Of.{cellsIn, bytesOf};
-ghost use Rattle.banks.specs.Paired.{paired, firstCell, cellsOf, numberIn, writtenIn, pairedFrom};
+ghost use Rattle.banks.specs.Of.{byPlace, bytesOf};
+ghost use Rattle.banks.specs.Paired.{paired, firstCell, cellsOf, numberIn, writtenIn, lostCells, pairedFrom, TouchByCells};
+ghost use Rattle.banks.specs.Words.{byteOf};
 use crate::bank::Bank;
 
 // Names 0 to 15 are the cells, 16 to 23 the pairs, 24 to 27 the fours, 28 and 29 the halves.
@@ -38,10 +39,18 @@ fn first_cell(a: u8) -> u8
     }
 }
 
+// Byte i of a word.
+fn byte_of(w: u64, i: usize) -> u8
+    requires { ⌜ i < 8 ⌝ }
+    ensures { λ r. ⌜ r ≡ byteOf w i ⌝ }
+{
+    ((w >> (8 * i)) % 256) as u8
+}
+
 // The number that some cells hold.
 fn number_in(cells: &[u8], first: usize, n: usize) -> u64
     requires { ⌜ n ≤ 8 ⌝ ∗ ⌜ first + n ≤ length (now cells) ⌝ ∗ ⌜ length (now cells) ≡ 16 ⌝ }
-    ensures { λ r. ⌜ r ≡ numberIn (bytesOf (now (cells .entry))) first n ⌝ }
+    ensures { λ r. ⌜ r ≡ numberIn (byPlace (now (cells .entry))) first n ⌝ }
 {
     let mut number: u64 = 0;
     for i in (0..n).rev() {
@@ -53,19 +62,33 @@ fn number_in(cells: &[u8], first: usize, n: usize) -> u64
 // Writes the lowest bytes of a word into some cells.
 fn write_in(cells: &mut [u8], first: usize, n: usize, w: u64)
     requires { ⌜ n ≤ 8 ⌝ ∗ ⌜ first + n ≤ length (now cells) ⌝ ∗ ⌜ length (now cells) ≡ 16 ⌝ }
-    ensures { λ _. ⌜ bytesOf (now (cells .exit)) ≡ writtenIn (bytesOf (now (cells .entry))) first n w ⌝ }
+    ensures { λ _. ⌜ byPlace (now (cells .exit)) ≡ writtenIn (byPlace (now (cells .entry))) first n w ⌝ }
 {
-    let mut rest = w;
     for i in 0..n {
-        cells[first + i] = (rest % 256) as u8;
-        rest /= 256;
+        cells[first + i] = byte_of(w, i);
     }
+}
+
+// The first n cells are lost: each becomes a byte of the word.
+fn lose(cells: &mut [u8], n: usize, w: u64)
+    requires { ⌜ n ≤ length (now cells) ⌝ }
+    ensures { λ _. ⌜ byPlace (now (cells .exit)) ≡ lostCells n (byPlace (now (cells .entry))) w ⌝ }
+{
+    for c in 0..n {
+        cells[c] = byte_of(w, c % 8);
+    }
+}
+
+// Two names touch exactly if they share a cell.
+pub fn touch_by_cells()
+    ensures { λ _. ⌜ TouchByCells ⌝ }
+{
 }
 
 impl Paired {
     // As if all cells had been lost with a word.
     pub fn new(w: u64) -> Paired
-        ensures { λ r. ⌜ cellsIn r ≡ pairedFrom w ⌝ }
+        ensures { λ r. ⌜ bytesOf r ≡ pairedFrom w ⌝ }
     {
         let mut bank = Paired { cells: [0; 16] };
         bank.lose_at_pause(w);
@@ -76,7 +99,7 @@ impl Paired {
 pub impl Bank for Paired as PairedBank {
     ghost kind = { paired };
 
-    ghost meaning = { cellsIn };
+    ghost meaning = { bytesOf };
 
     fn names(&self) -> u8 {
         30
@@ -107,11 +130,10 @@ pub impl Bank for Paired as PairedBank {
     }
 
     fn lose_at_call(&mut self, w: u64) {
-        write_in(&mut self.cells, 0, 8, w);
+        lose(&mut self.cells, 8, w);
     }
 
     fn lose_at_pause(&mut self, w: u64) {
-        write_in(&mut self.cells, 0, 8, w);
-        write_in(&mut self.cells, 8, 8, w);
+        lose(&mut self.cells, 16, w);
     }
 }

@@ -33,8 +33,8 @@ module _ (code : Code) (keeps : codeOk code ≡ true) where
   parts : (headOk (headOf code) ≡ true) × (blocksOk (length (code .blocks) - 1) 0 (code .blocks) ≡ true)
   parts = and-parts (headOk (headOf code)) (blocksOk (length (code .blocks) - 1) 0 (code .blocks)) keeps
 
-  pub few-rows : (b : ℕ) → length (getD (code .blocks) b []) ≤ 64
-  few-rows b = blocks-few (length (code .blocks) - 1) 0 (code .blocks) (parts .1) b
+  pub few-rows : (b : ℕ) (rows : List Row) → rows ≡ getD (code .blocks) b [] → length rows ≤ 64
+  few-rows b rows e = rw e (blocks-few (length (code .blocks) - 1) 0 (code .blocks) (parts .1) b)
 
   -- There are at most 8 parameters.
   pub few-parameters : length (code .params) ≤ 8
