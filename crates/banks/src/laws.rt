@@ -6,12 +6,12 @@ use crate::bank::Bank;
 
 // A put is seen: the name then holds the lowest bytes of the word, as many as it has. (A number that is no
 // name has none, and holds 0.)
-pub fn look_after_put<B: Bank>(bank: &mut B, a: u8, w: u64) -> u64
-    ensures seen { λ r. ⌜ r ≡ lowest w (B·Bank .kind .describe (B·Bank .meaning (now (bank .entry))) .width a) ⌝ }
-    ensures bank { λ _. ⌜ B·Bank .meaning (now (bank .exit)) ≡ B·Bank .kind .put (B·Bank .meaning (now (bank .entry))) a w ⌝ }
+pub fn look_after_put<B: Bank>(bank: &mut B, name: u8, w: u64) -> u64
+    ensures seen { λ r. ⌜ r ≡ lowest w (B·Bank .kind .describe (B·Bank .meaning (now (bank .entry))) .width name) ⌝ }
+    ensures bank { λ _. ⌜ B·Bank .meaning (now (bank .exit)) ≡ B·Bank .kind .put (B·Bank .meaning (now (bank .entry))) name w ⌝ }
 {
-    bank.put(a, w);
-    bank.look(a)
+    bank.put(name, w);
+    bank.look(name)
 }
 
 // A put leaves what another name holds, unless it touches that.
@@ -33,21 +33,21 @@ pub fn touch_each_other<B: Bank>(bank: &B, a: u8, b: u8) -> bool
 }
 
 // A loss at a call leaves what a name holds that is kept over it.
-pub fn look_over_call<B: Bank>(bank: &mut B, w: u64, a: u8) -> u64
-    ensures result { λ r. ⌜ r ≡ B·Bank .kind .look (B·Bank .kind .loseAtCall (B·Bank .meaning (now (bank .entry))) w) a ⌝ }
-    ensures kept { λ r. ⌜ (B·Bank .kind .describe (B·Bank .meaning (now (bank .entry))) .keptOverCall a ≡ true → r ≡ B·Bank .kind .look (B·Bank .meaning (now (bank .entry))) a) ⌝ }
+pub fn look_over_call<B: Bank>(bank: &mut B, w: u64, name: u8) -> u64
+    ensures result { λ r. ⌜ r ≡ B·Bank .kind .look (B·Bank .kind .loseAtCall (B·Bank .meaning (now (bank .entry))) w) name ⌝ }
+    ensures kept { λ r. ⌜ (B·Bank .kind .describe (B·Bank .meaning (now (bank .entry))) .keptOverCall name ≡ true → r ≡ B·Bank .kind .look (B·Bank .meaning (now (bank .entry))) name) ⌝ }
     ensures bank { λ _. ⌜ B·Bank .meaning (now (bank .exit)) ≡ B·Bank .kind .loseAtCall (B·Bank .meaning (now (bank .entry))) w ⌝ }
 {
     bank.lose_at_call(w);
-    bank.look(a)
+    bank.look(name)
 }
 
 // A loss at a pause leaves what a name holds that is kept over it.
-pub fn look_over_pause<B: Bank>(bank: &mut B, w: u64, a: u8) -> u64
-    ensures result { λ r. ⌜ r ≡ B·Bank .kind .look (B·Bank .kind .loseAtPause (B·Bank .meaning (now (bank .entry))) w) a ⌝ }
-    ensures kept { λ r. ⌜ (B·Bank .kind .describe (B·Bank .meaning (now (bank .entry))) .keptOverPause a ≡ true → r ≡ B·Bank .kind .look (B·Bank .meaning (now (bank .entry))) a) ⌝ }
+pub fn look_over_pause<B: Bank>(bank: &mut B, w: u64, name: u8) -> u64
+    ensures result { λ r. ⌜ r ≡ B·Bank .kind .look (B·Bank .kind .loseAtPause (B·Bank .meaning (now (bank .entry))) w) name ⌝ }
+    ensures kept { λ r. ⌜ (B·Bank .kind .describe (B·Bank .meaning (now (bank .entry))) .keptOverPause name ≡ true → r ≡ B·Bank .kind .look (B·Bank .meaning (now (bank .entry))) name) ⌝ }
     ensures bank { λ _. ⌜ B·Bank .meaning (now (bank .exit)) ≡ B·Bank .kind .loseAtPause (B·Bank .meaning (now (bank .entry))) w ⌝ }
 {
     bank.lose_at_pause(w);
-    bank.look(a)
+    bank.look(name)
 }

@@ -1,9 +1,12 @@
-use mathlib.Core.Path.{_∙_}
+use borrow.Author.Needs.{needs}
+use mathlib.Core.Path.{_≡_, _∙_}
 use native.Mathlib.Omega.{arith}
 use Rattle.std.proofs.shelf.Results.{err-from-errBy}
+use Rattle.std.specs.Results.{errPart}
 use Rattle.forms.specs.View.{code}
 use Rattle.forms.proofs.Keeps.{form-keeps}
 use Rattle.forms.proofs.Kept.{few-rows}
+use Rattle.banks.specs.Fits.{unfitParameter}
 use Rattle.banks.proofs.Fitting.{block-found, block-passed, blocks-none, unfit-by-row, unfit-by-parameter}
 use Rattle.banks.proofs.fits.form_fits.Needs as need
 
@@ -23,4 +26,6 @@ pub loop-block-again : need.loop-block-again
 loop-block-again g c = block-passed (g .B·Bank .kind .describe (g .B·Bank .meaning (c .args .bank .now))) (c .args .side) (code (c .args .form .now) .blocks) (c .loop-block .block) (c .loop-block .inv) (c .block .result .now) (c .block .ensures) (omega arith) (c .in-Continue-rows-fit .ensures tt)
 
 pub returns : need.returns
-returns g c = c .parameters-fit .ensures ∙ unfit-by-parameter (g .B·Bank .kind .describe (g .B·Bank .meaning (c .args .bank .now))) (c .args .side) (code (c .args .form .now)) (c .parameters .result .now) (c .parameters .ensures) (blocks-none (g .B·Bank .kind .describe (g .B·Bank .meaning (c .args .bank .now))) (c .args .side) (code (c .args .form .now) .blocks) (c .loop-block .block) (c .loop-block .inv) (omega arith))
+returns g c =
+  let told : errPart (c .parameters-fit .result) ≡ unfitParameter (g .B·Bank .kind .describe (g .B·Bank .meaning (c .args .bank .now))) (c .args .side) 0 (c .parameters .result .now) = search needs in
+  told ∙ unfit-by-parameter (g .B·Bank .kind .describe (g .B·Bank .meaning (c .args .bank .now))) (c .args .side) (code (c .args .form .now)) (c .parameters .result .now) (c .parameters .ensures) (blocks-none (g .B·Bank .kind .describe (g .B·Bank .meaning (c .args .bank .now))) (c .args .side) (code (c .args .form .now) .blocks) (c .loop-block .block) (c .loop-block .inv) (omega arith))
