@@ -47,6 +47,21 @@ fn a_refused_frame_hands_the_bank_back() -> Result<(), Fail> {
 }
 
 #[test]
+fn the_first_row_that_does_not_fit_is_named() -> Result<(), Fail> {
+    // block 0: constant 0 255, go 1; block 1: move 0 0, constant 0 256, give 1; parameter 1
+    let bytes = [2, 1, 1, 2, 1, 0, 0xff, 1, 7, 1, 3, 0, 0, 0, 1, 0, 0x80, 2, 10, 1];
+    let mut rows = [Row::NONE; 5];
+    let mut head = Head::NONE;
+    read_form(&bytes, &mut rows, &mut head)?;
+    let lent = &rows;
+    let top = &head;
+    let mut form = Form::give_zero();
+    form.fill(lent, top)?;
+    let bank = Variables::new(&[1])?;
+    check_eq(form_fits(&bank, &form, Side::Before), Err(FitFault::AtRow(Side::Before, 1, 1)))
+}
+
+#[test]
 fn a_parameter_that_is_no_name_does_not_fit() -> Result<(), Fail> {
     let mut rows = [Row::NONE; 1];
     let mut head = Head::NONE;
