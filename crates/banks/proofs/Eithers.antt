@@ -1,10 +1,10 @@
 -- The laws of a bank that is one of two, from those of both.
 use mathlib.Core.Path.{_≡_, ap}
 use mathlib.Core.Bool.{true, false}
-use mathlib.Core.Logic.{_⊎_, inl, inr}
+use mathlib.Core.Logic.{inl, inr}
 use Prim.Native.Nat.{ℕ, _<_, _≤_, _%_, _^_, _*_}
-use Rattle.banks.specs.Kind.{Kind, Laws, Described}
 use Rattle.banks.specs.Either.{OneOf, describeOne, lookOne, putOne, loseOneAtCall, loseOneAtPause, oneOf}
+use Rattle.banks.specs.Kind.{Kind, Laws, Described}
 
 module _ (j k : Kind) (J : Laws j) (K : Laws k) where
   -- What both show at each meaning, the one of the two shows.

@@ -4,20 +4,20 @@ use mathlib.Core.Bool.{Bool, true, false, cond, _&&_}
 use mathlib.Core.List.{List}
 use native.Mathlib.Omega.{arith}
 use lib.Dec.{eqb, leb, ltb}
-use lib.ListN.{length, getD, take}
-use Prim.Native.Nat.{ℕ, _+_, _-_, _<_, _≤_, _%_, _^_, _*_, min}
+use lib.ListN.{length, getD}
+use Prim.Native.Nat.{ℕ, _+_, _-_, _<_, _≤_, _%_, _^_, _*_}
 use Rattle.std.proofs.shelf.Lists.{getD-past, getD-take, length-take, take-all}
 use Rattle.std.proofs.shelf.Tests.{lt-ltb, le-ltb, le-leb, cond-true}
 use Rattle.std.proofs.shelf.Ways.{tells}
 use Rattle.std.specs.declared.option.Option.{Option}
 use Rattle.std.specs.declared.option.Option.the-variants.{Some, None}
-use Rattle.banks.specs.declared.fault.BankFault.{BankFault}
 use Rattle.banks.specs.declared.fault.BankFault.the-variants.{Names}
-use Rattle.banks.specs.Kind.{Description, Kind, Described, Laws, isWidth}
+use Rattle.banks.specs.declared.fault.BankFault.{BankFault}
 use Rattle.banks.specs.Firsts.{_otherwise_}
 use Rattle.banks.specs.Frame.{withSlots, named, Framed, over, namesBelow, slotsOf, withBelow, withSlotWords, frame}
+use Rattle.banks.specs.Kind.{Description, Kind, Described, Laws}
 use Rattle.banks.specs.Made.{tableFault, frameFault}
-use Rattle.banks.specs.Table.{Table, allWidths, cellLook, tablePut}
+use Rattle.banks.specs.Table.{allWidths, cellLook, tablePut}
 use Rattle.banks.specs.Words.{lowest}
 use Rattle.banks.proofs.Splits.{by-order}
 use Rattle.banks.proofs.Tables.{width-at, widths-take, good-cells, same-table, cell-fits, cell-seen, cell-left, cell-none, take-past}

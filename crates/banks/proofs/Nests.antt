@@ -1,19 +1,19 @@
 -- The laws of nested units.
 use mathlib.Core.Path.{_≡_, refl, sym, ap, subst, _∙_, fun-ext}
-use mathlib.Core.Bool.{Bool, true, false, cond, _&&_}
+use mathlib.Core.Bool.{true, false}
 use mathlib.Core.List.{List}
 use native.Mathlib.Omega.{arith}
 use native.Mathlib.Nat.{mod-mod}
 use lib.Dec.{eqb, ltb, leb}
 use lib.ListN.{length, getD, set}
-use Prim.Native.Nat.{ℕ, zero, suc, _+_, _-_, _<_, _≤_, _/_, _%_, _^_, _*_}
+use Prim.Native.Nat.{ℕ, zero, suc, _+_, _<_, _≤_, _/_, _%_, _^_, _*_}
 use Rattle.std.proofs.shelf.Tests.{false≢true, lt-ltb, le-ltb, eq-eqb, cond-true, cond-false, and-parts, leb-true}
 use Rattle.std.proofs.shelf.Lists.{getD-set-same, getD-set-other}
 use Rattle.std.proofs.shelf.Ways.{tells}
 use Rattle.std.proofs.shelf.Bits.{pow-pos, mod-below, mod-mul-add}
 use Rattle.banks.specs.Kind.{Described, Laws, isWidth}
+use Rattle.banks.specs.Nested.{unitOf, nestedWidth, unitAfter, nestedDescription, nestedLook, nestedPut, nested}
 use Rattle.banks.specs.Words.{lowest}
-use Rattle.banks.specs.Nested.{unitOf, nestedWidth, unitAfter, nestedDescription, nestedLook, nestedPut, lostUnits, nested}
 use Rattle.banks.proofs.Splits.{by-order, by-equal}
 
 power-width : (k : ℕ) → k < 4 → isWidth (2 ^ k) ≡ true

@@ -1,18 +1,16 @@
 -- How an outline is made, name by name.
 use mathlib.Core.Path.{_≡_, sym, ap, subst, _∙_}
-use mathlib.Core.Bool.{Bool, true, false}
+use mathlib.Core.Bool.{false}
 use mathlib.Core.List.{List}
 use native.Mathlib.Omega.{arith}
 use native.Mathlib.Nat.{le-trans}
-use lib.Dec.{eqb}
-use lib.ListN.{length, getD, set, replicate, length-set}
+use lib.ListN.{length, getD, set, length-set}
 use Prim.Native.Nat.{ℕ, _+_, _<_, _≤_}
 use Rattle.std.proofs.shelf.Lists.{getD-set-same, getD-set-other, getD-past}
-use Rattle.banks.specs.declared.outline.Outline.{Outline}
 use Rattle.banks.specs.Kind.{Description, Described}
 use Rattle.banks.specs.Outlines.{Bits, outlined}
 use Rattle.banks.specs.Words.{bit}
-use Rattle.banks.proofs.Bits.{BitsBelow, bit-none, bits-none, bits-more, bits-all}
+use Rattle.banks.proofs.Bits.{BitsBelow, bit-none, bits-none, bits-all}
 use Rattle.banks.proofs.Splits.{by-order, by-equal}
 
 -- No name is 64 or above.

@@ -1,6 +1,6 @@
 -- Tables of cells, and the laws of variables.
 use mathlib.Core.Path.{_≡_, refl, sym, ap, subst, _∙_, fun-ext}
-use mathlib.Core.Bool.{Bool, true, false, cond, _&&_, Bool-set}
+use mathlib.Core.Bool.{true, false, _&&_, Bool-set}
 use mathlib.Core.HLevel.{isProp→PathP}
 use mathlib.Core.List.{List, [], _∷_}
 use native.Mathlib.Omega.{arith}
@@ -12,7 +12,7 @@ use Rattle.std.proofs.shelf.Tests.{lt-ltb, leb-true, cond-true, cond-false, and
 use Rattle.std.proofs.shelf.Lists.{getD-set-same, getD-set-other, getD-past, length-take, at-drop-more, at-drop-all}
 use Rattle.std.proofs.shelf.Ways.{tells}
 use Rattle.std.proofs.shelf.Bits.{pow-pos, mod-below}
-use Rattle.banks.specs.Kind.{Description, Described, Laws, isWidth}
+use Rattle.banks.specs.Kind.{Described, Laws, isWidth}
 use Rattle.banks.specs.Table.{allWidths, tableOk, Table, cellLook, cellPut}
 use Rattle.banks.specs.Variables.{variablesOf, variables}
 use Rattle.banks.proofs.Splits.{by-equal}

@@ -8,8 +8,8 @@ use Rattle.std.specs.declared.option.Option.the-variants.{Some, None}
 use Rattle.forms.specs.declared.row.Row.{Row}
 use Rattle.forms.specs.Code.{Code}
 use Rattle.forms.specs.Rows.{limitsOf}
-use Rattle.banks.specs.declared.misfit.FitFault.{FitFault}
 use Rattle.banks.specs.declared.misfit.FitFault.the-variants.{AtRow, AtParameter}
+use Rattle.banks.specs.declared.misfit.FitFault.{FitFault}
 use Rattle.banks.specs.declared.misfit.Side.{Side}
 use Rattle.banks.specs.Firsts.{_otherwise_}
 use Rattle.banks.specs.Kind.{Description}

@@ -5,8 +5,8 @@ pub mod Fits
 pub mod Frame
 pub mod Kind
 pub mod Made
+pub mod Meanings
 pub mod Nested
-pub mod Of
 pub mod Outlines
 pub mod Paired
 pub mod Refusals

@@ -7,8 +7,8 @@ use lib.Dec.{leb}
 use lib.ListN.{length}
 use Rattle.std.specs.declared.option.Option.{Option}
 use Rattle.std.specs.declared.option.Option.the-variants.{Some, None}
-use Rattle.banks.specs.declared.fault.BankFault.{BankFault}
 use Rattle.banks.specs.declared.fault.BankFault.the-variants.{Count, Width, Names}
+use Rattle.banks.specs.declared.fault.BankFault.{BankFault}
 use Rattle.banks.specs.Firsts.{_otherwise_}
 use Rattle.banks.specs.Table.{Table, allWidths, noWords}
 

@@ -1,5 +1,5 @@
 -- Nested: units 0 to 7 of eight bytes, lowest byte first. Name 4 × u + k is the lowest 2^k bytes of unit u.
-use mathlib.Core.Bool.{Bool, false, _&&_, cond}
+use mathlib.Core.Bool.{false, _&&_, cond}
 use Prim.Native.Nat.{ℕ, _+_, _*_, _/_, _%_, _^_}
 use lib.Dec.{eqb, leb, ltb}
 use Rattle.banks.specs.Kind.{Description, Kind}

@@ -2,12 +2,12 @@
 use Prim.Native.Nat.{ℕ}
 use Rattle.numbers.specs.Refusals.{atPlace}
 use Rattle.numbers.specs.declared.refusal.Refusal.{Refusal}
-use Rattle.banks.specs.declared.fault.BankFault.{BankFault}
 use Rattle.banks.specs.declared.fault.BankFault.the-variants.{Count, Width, Names}
-use Rattle.banks.specs.declared.misfit.FitFault.{FitFault}
+use Rattle.banks.specs.declared.fault.BankFault.{BankFault}
 use Rattle.banks.specs.declared.misfit.FitFault.the-variants.{AtRow, AtParameter}
-use Rattle.banks.specs.declared.misfit.Side.{Side}
+use Rattle.banks.specs.declared.misfit.FitFault.{FitFault}
 use Rattle.banks.specs.declared.misfit.Side.the-variants.{Before, After}
+use Rattle.banks.specs.declared.misfit.Side.{Side}
 
 -- A bank that is not made is refusal 15, which names nothing else.
 abbrev pub bankRefusal : BankFault → Refusal

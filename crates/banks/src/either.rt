@@ -1,6 +1,6 @@
 // A bank that is one of two, so that a program can choose a kind while it runs.
 ghost use Rattle.banks.specs.Either.{oneOf};
-ghost use Rattle.banks.specs.Of.{chosen};
+ghost use Rattle.banks.specs.Meanings.{chosen};
 use crate::bank::Bank;
 
 // One of two banks.

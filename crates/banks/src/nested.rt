@@ -2,8 +2,8 @@
 ghost use mathlib.Core.Path.{_≡_};
 ghost use Prim.Native.Nat.{_≤_};
 ghost use lib.ListN.{length};
+ghost use Rattle.banks.specs.Meanings.{byPlace, unitsOf};
 ghost use Rattle.banks.specs.Nested.{nested, nestedWidth, unitAfter, lostUnits, nestedFrom};
-ghost use Rattle.banks.specs.Of.{byPlace, unitsOf};
 use crate::bank::Bank;
 use crate::words::low_bytes;
 

@@ -2,7 +2,7 @@
 ghost use mathlib.Core.Path.{_≡_};
 ghost use Prim.Native.Nat.{_+_, _<_, _≤_};
 ghost use lib.ListN.{length};
-ghost use Rattle.banks.specs.Of.{byPlace, bytesOf};
+ghost use Rattle.banks.specs.Meanings.{byPlace, bytesOf};
 ghost use Rattle.banks.specs.Paired.{paired, firstCell, cellsOf, numberIn, writtenIn, lostCells, pairedFrom, TouchByCells};
 ghost use Rattle.banks.specs.Words.{byteOf};
 use crate::bank::Bank;

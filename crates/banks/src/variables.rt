@@ -1,7 +1,7 @@
 // Variables: names of declared widths that touch only themselves and are never lost.
 ghost use mathlib.Core.Path.{_≡_};
 ghost use Rattle.banks.specs.Made.{tableFault, Fresh};
-ghost use Rattle.banks.specs.Of.{tableOf};
+ghost use Rattle.banks.specs.Meanings.{tableOf};
 ghost use Rattle.banks.specs.Variables.{variables};
 ghost use Rattle.std.specs.Results.{errPart};
 ghost use Rattle.std.specs.Vec.{made};

@@ -4,7 +4,7 @@ ghost use Prim.Native.Nat.{_≤_};
 ghost use lib.ListN.{length, getD, take};
 ghost use Rattle.banks.specs.Kind.{isWidth};
 ghost use Rattle.banks.specs.Made.{tableFault, Fresh};
-ghost use Rattle.banks.specs.Of.{tableOf};
+ghost use Rattle.banks.specs.Meanings.{tableOf};
 ghost use Rattle.banks.specs.Table.{allWidths, cellLook, tablePut};
 ghost use Rattle.std.specs.Results.{errPart};
 ghost use Rattle.std.specs.Vec.{made};

@@ -2,7 +2,7 @@
 ghost use mathlib.Core.Path.{_≡_};
 ghost use Rattle.banks.specs.Frame.{frame, over, withSlots};
 ghost use Rattle.banks.specs.Made.{frameFault, Fresh};
-ghost use Rattle.banks.specs.Of.{tableOf};
+ghost use Rattle.banks.specs.Meanings.{tableOf};
 ghost use Rattle.std.specs.Options.{mapped};
 ghost use Rattle.std.specs.Results.{errPart, Cases};
 ghost use Rattle.std.specs.Vec.{made};

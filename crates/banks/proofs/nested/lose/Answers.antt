@@ -1,8 +1,8 @@
 use mathlib.Core.Path.{_≡_, refl, ap, fun-ext, _∙_}
 use native.Mathlib.Omega.{arith}
 use Prim.Native.Nat.{ℕ}
+use Rattle.banks.specs.Meanings.{byPlace}
 use Rattle.banks.specs.Nested.{lostUnits}
-use Rattle.banks.specs.Of.{byPlace}
 use Rattle.banks.proofs.Fronts.{front-none, front-more}
 use Rattle.banks.proofs.nested.lose.Needs as need
 

@@ -1,4 +1,4 @@
-use Rattle.banks.specs.Of.{byPlace}
+use Rattle.banks.specs.Meanings.{byPlace}
 use Rattle.banks.proofs.Fronts.{Front}
 use Rattle.banks.proofs.nested.lose.Given as given
 

@@ -1,8 +1,8 @@
 use mathlib.Core.Path.{_≡_, ap, fun-ext, _∙_}
 use native.Mathlib.Omega.{arith}
 use Prim.Native.Nat.{ℕ, _%_}
+use Rattle.banks.specs.Meanings.{byPlace}
 use Rattle.banks.specs.Paired.{lostCells}
-use Rattle.banks.specs.Of.{byPlace}
 use Rattle.banks.specs.Words.{byteOf}
 use Rattle.banks.proofs.Fronts.{front-none, front-more}
 use Rattle.banks.proofs.paired.lose.Needs as need

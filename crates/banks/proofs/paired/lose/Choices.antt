@@ -1,5 +1,5 @@
 use Prim.Native.Nat.{_%_}
-use Rattle.banks.specs.Of.{byPlace}
+use Rattle.banks.specs.Meanings.{byPlace}
 use Rattle.banks.specs.Words.{byteOf}
 use Rattle.banks.proofs.Fronts.{Front}
 use Rattle.banks.proofs.paired.lose.Given as given

@@ -1,7 +1,6 @@
 use native.Mathlib.Omega.{arith}
-use Prim.Native.Nat.{_+_, _-_, _<_, _^_}
-use Rattle.banks.specs.Of.{byPlace}
-use Rattle.banks.specs.Paired.{numberIn}
+use Prim.Native.Nat.{_+_, _-_}
+use Rattle.banks.specs.Meanings.{byPlace}
 use Rattle.banks.proofs.Pairs.{number-small, number-more}
 use Rattle.banks.proofs.paired.number_in.Needs as need
 

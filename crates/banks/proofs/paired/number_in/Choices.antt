@@ -1,6 +1,6 @@
 use mathlib.Core.Path.{_≡_}
 use Prim.Native.Nat.{_+_, _-_}
-use Rattle.banks.specs.Of.{byPlace}
+use Rattle.banks.specs.Meanings.{byPlace}
 use Rattle.banks.specs.Paired.{numberIn}
 use Rattle.banks.proofs.paired.number_in.Given as given
 

@@ -1,7 +1,7 @@
 use mathlib.Core.Path.{_≡_, ap, fun-ext, _∙_}
 use native.Mathlib.Omega.{arith}
 use Prim.Native.Nat.{ℕ}
-use Rattle.banks.specs.Of.{byPlace}
+use Rattle.banks.specs.Meanings.{byPlace}
 use Rattle.banks.specs.Paired.{writtenIn}
 use Rattle.banks.proofs.Pairs.{written-none, written-more}
 use Rattle.banks.proofs.paired.write_in.Needs as need

@@ -1,6 +1,6 @@
 use mathlib.Core.Path.{_≡_}
 use Prim.Native.Nat.{ℕ}
-use Rattle.banks.specs.Of.{byPlace}
+use Rattle.banks.specs.Meanings.{byPlace}
 use Rattle.banks.specs.Paired.{writtenIn}
 use Rattle.banks.proofs.paired.write_in.Given as given
 

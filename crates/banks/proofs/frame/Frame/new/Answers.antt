@@ -1,10 +1,9 @@
-use mathlib.Core.Path.{_≡_, refl, sym}
+use mathlib.Core.Path.{refl}
 use native.Mathlib.Omega.{arith}
 use lib.ListN.{length}
 use Prim.Native.Nat.{_+_, _≤_}
-use Rattle.std.proofs.shelf.Ways.{tells}
 use Rattle.banks.specs.Frame.{over}
-use Rattle.banks.specs.Of.{tableOf}
+use Rattle.banks.specs.Meanings.{tableOf}
 use Rattle.banks.proofs.Frames.{no-fault, as-declared}
 use Rattle.banks.proofs.frame.Frame.new.Needs as need
 

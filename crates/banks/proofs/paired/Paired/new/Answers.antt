@@ -2,7 +2,7 @@ use borrow.Author.Needs.{needs}
 use mathlib.Core.Path.{_≡_, ap, fun-ext, _∙_}
 use lib.ListN.{replicate}
 use Prim.Native.Nat.{ℕ}
-use Rattle.banks.specs.Of.{byPlace, bytesOf}
+use Rattle.banks.specs.Meanings.{byPlace, bytesOf}
 use Rattle.banks.specs.Paired.{lostCells}
 use Rattle.banks.proofs.Tables.{zeros}
 use Rattle.banks.proofs.paired.Paired.new.Needs as need

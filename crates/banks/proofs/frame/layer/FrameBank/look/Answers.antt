@@ -1,7 +1,7 @@
 use mathlib.Core.Path.{_∙_}
 use native.Mathlib.Omega.{arith}
 use Rattle.banks.specs.Frame.{over}
-use Rattle.banks.specs.Of.{tableOf}
+use Rattle.banks.specs.Meanings.{tableOf}
 use Rattle.banks.proofs.Frames.{slot-look, past-look}
 use Rattle.banks.proofs.frame.layer.FrameBank.look.Needs as need
 

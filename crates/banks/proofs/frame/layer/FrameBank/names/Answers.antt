@@ -1,8 +1,7 @@
 use native.Mathlib.Omega.{arith}
 use Prim.Native.Nat.{_-_}
-use lib.ListN.{take}
 use Rattle.std.proofs.shelf.Lists.{length-take}
-use Rattle.banks.specs.Of.{tableOf}
+use Rattle.banks.specs.Meanings.{tableOf}
 use Rattle.banks.proofs.Tables.{few-cells}
 use Rattle.banks.proofs.frame.layer.FrameBank.names.Needs as need
 

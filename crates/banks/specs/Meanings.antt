@@ -3,12 +3,12 @@ use mathlib.Core.Logic.{_⊎_, inl, inr}
 use mathlib.Core.List.{List}
 use Prim.Native.Nat.{ℕ}
 use lib.ListN.{getD, take}
-use Rattle.banks.specs.Table.{Table}
 use Rattle.banks.specs.declared.cells.Cells.{Cells}
-use Rattle.banks.specs.declared.either.Either.{Either}
 use Rattle.banks.specs.declared.either.Either.the-variants.{First, Second}
+use Rattle.banks.specs.declared.either.Either.{Either}
 use Rattle.banks.specs.declared.nested.Nested.{Nested}
 use Rattle.banks.specs.declared.paired.Paired.{Paired}
+use Rattle.banks.specs.Table.{Table}
 
 -- A list of numbers, by their places.
 abbrev pub byPlace : List ℕ → (ℕ → ℕ)
