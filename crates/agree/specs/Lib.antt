@@ -1,3 +1,4 @@
+pub mod Banks
 pub mod Classes
 pub mod Cuts
 pub mod Digits

@@ -1,5 +1,7 @@
 // Carries out job files over the library of forms.
+mod any_bank;
 mod arguments;
+mod changes;
 mod classes;
 mod commands;
 mod demo;
