@@ -2,7 +2,7 @@
 use mathlib.Core.Bool.{cond, _&&_}
 use mathlib.Core.List.{List, [], _∷_, _++_}
 use mathlib.Core.Path.{_≡_}
-use Prim.Native.Nat.{ℕ, _+_, _-_, _*_, _^_}
+use Prim.Native.Nat.{ℕ, _+_, _-_, _*_, _^_, min}
 use lib.Dec.{eqb, ltb}
 use lib.ListN.{getD, drop}
 use Rattle.std.specs.declared.option.Option.{Option}
@@ -47,6 +47,14 @@ extended base n b = narrow (then (digitIn base b) (λ d. Some (n * base + d)))
 -- the number that a word writes: 0x and hexadecimal digits, or decimal digits
 abbrev pub number : List ℕ → Option ℕ
 number bs = cond (eqb (getD bs 0 0) 48 && eqb (getD bs 1 0) 120) (narrow (numeral 16 (drop 2 bs))) (narrow (numeral 10 bs))
+
+-- the number below 256 that a word writes
+abbrev pub byteNumber : List ℕ → Option ℕ
+byteNumber bs = then (number bs) (λ n. cond (ltb n 256) (Some n) None)
+
+-- the width that a word declares: a number, and 255, which is no width, for each that is larger
+abbrev pub declaredWidth : List ℕ → Option ℕ
+declaredWidth bs = then (number bs) (λ n. Some (min n 255))
 
 -- the byte that two digits write
 abbrev pub pair : ℕ → ℕ → Option ℕ

@@ -2,7 +2,7 @@
 ghost use mathlib.Core.Path.{_≡_};
 ghost use Prim.Native.Nat.{_≤_};
 ghost use Rattle.std.specs.Of.Vec.{vec-items};
-ghost use Rattle.agree.specs.Digits.{digit, digitIn, pair, narrow, extended, numeral, number, pairs, Pushed};
+ghost use Rattle.agree.specs.Digits.{digit, digitIn, pair, narrow, extended, numeral, number, byteNumber, declaredWidth, pairs, Pushed};
 ghost use Rattle.agree.specs.declared.numerals.PairsFault.the-variants.{Memory};
 use std::alloc::Refused;
 
@@ -66,6 +66,22 @@ pub fn number_value(word: &[u8]) -> Option<u64>
         [b'0', b'x', digits @ ..] => numeral_value(16, digits),
         _ => numeral_value(10, word),
     }
+}
+
+// The number below 256 that a word writes.
+pub fn byte_value(word: &[u8]) -> Option<u8>
+    ensures { λ r. ⌜ r ≡ byteNumber (now (word .entry)) ⌝ }
+{
+    let value = number_value(word)?;
+    if value < 256 { Some(value as u8) } else { None }
+}
+
+// The width that a word declares, where all above 255 are handed on as 255, which is no width either.
+pub fn width_value(word: &[u8]) -> Option<u8>
+    ensures { λ r. ⌜ r ≡ declaredWidth (now (word .entry)) ⌝ }
+{
+    let value = number_value(word)?;
+    Some(value.min(255) as u8)
 }
 
 // Why a word's bytes were not read.
