@@ -1,11 +1,15 @@
 // The words after a command, each read as what the command takes.
 use crate::faults::Fault;
+use crate::faults::FaultFromRefused;
 use crate::names::name_of;
 use crate::numerals::PairsFault;
+use crate::numerals::byte_value;
 use crate::numerals::number_value;
 use crate::numerals::push_pairs;
+use crate::numerals::width_value;
 use crate::words::Words;
 use crate::words::WordsIterator;
+use std::alloc::Global;
 use std::fs;
 use std::io;
 use std::str::from_utf8;
@@ -26,6 +30,21 @@ pub fn next_number<'a>(words: &mut Words<'a>) -> Result<u64, Fault<'a>> {
     }
 }
 
+// The next word, which is a number below 256.
+pub fn next_byte<'a>(words: &mut Words<'a>) -> Result<u8, Fault<'a>> {
+    match words.next() {
+        Some(word) => byte_value(word).ok_or(Fault::BadByte(word)),
+        None => Err(Fault::Missing("a number")),
+    }
+}
+
+// The last word, which is a number.
+pub fn last_number<'a>(mut words: Words<'a>) -> Result<u64, Fault<'a>> {
+    let number = next_number(&mut words)?;
+    no_more(words)?;
+    Ok(number)
+}
+
 // Passes over the next word where it is the given one, and says whether it was.
 pub fn skip_keyword(words: &mut Words, keyword: &[u8]) -> bool {
     let mut ahead = *words;
@@ -42,6 +61,15 @@ pub fn no_more<'a>(mut words: Words<'a>) -> Result<(), Fault<'a>> {
         Some(word) => Err(Fault::Extra(word)),
         None => Ok(()),
     }
+}
+
+// The widths that the words declare.
+pub fn rest_widths<'a>(heap: Global, words: Words<'a>) -> Result<Vec<u8>, Fault<'a>> {
+    let mut widths = Vec::new(heap);
+    for word in words {
+        widths.push(width_value(word).ok_or(Fault::BadNumber(word))?)?;
+    }
+    Ok(widths)
 }
 
 // The bytes that the words write in pairs of hexadecimal digits, or those of the file after an @.

@@ -8,12 +8,16 @@ use std::io;
 #[derive(Clone, Copy)]
 pub enum Fault<'a> {
     NoCommand(&'a [u8]),
+    NoKind(&'a [u8]),
     Missing(&'static str),
     Extra(&'a [u8]),
     BadName(&'a [u8]),
     BadNumber(&'a [u8]),
+    BadByte(&'a [u8]),
     BadBytes(&'a [u8]),
     NotDefined(&'a str),
+    NotBank(&'a str),
+    TwoFrames(&'a str),
     Unreadable(&'a [u8], io::Error),
     NoMemory,
 }
@@ -63,12 +67,16 @@ pub impl<'a> fmt::Display for Fault<'a> as FaultDisplay {
     fn fmt<W: fmt::Write>(&self, f: &mut fmt::Formatter<W>) -> fmt::Result {
         match *self {
             Fault::NoCommand(word) => write!(f, "no such command: {}", Quoted(word)),
+            Fault::NoKind(word) => write!(f, "no such kind of bank: {}", Quoted(word)),
             Fault::Missing(what) => write!(f, "{what} is missing"),
             Fault::Extra(word) => write!(f, "one word too many: {}", Quoted(word)),
             Fault::BadName(word) => write!(f, "not a name: {}", Quoted(word)),
             Fault::BadNumber(word) => write!(f, "not a number below 2^64: {}", Quoted(word)),
+            Fault::BadByte(word) => write!(f, "not a number below 256: {}", Quoted(word)),
             Fault::BadBytes(word) => write!(f, "not pairs of hexadecimal digits: {}", Quoted(word)),
             Fault::NotDefined(name) => write!(f, "not defined: {name}"),
+            Fault::NotBank(name) => write!(f, "not a bank: {name}"),
+            Fault::TwoFrames(name) => write!(f, "a frame over two frames: {name}"),
             Fault::Unreadable(path, error) => write!(f, "cannot read {}: {error}", Quoted(path)),
             Fault::NoMemory => f.write_str("no memory"),
         }

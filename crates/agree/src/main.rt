@@ -1,6 +1,7 @@
-// Carries out job files over the library of forms.
+// Carries out job files over the libraries of forms and banks.
 mod any_bank;
 mod arguments;
+mod bank_commands;
 mod changes;
 mod classes;
 mod commands;
@@ -26,9 +27,16 @@ const USAGE: &str = "usage: agree [FILE...]
 Carries out job files in order. - is standard input, and --demo the built-in
 demonstration, which also runs where no file is named.
 
-  form NAME BYTES           reads a form
-  form NAME rows N BYTES    the same, with room for N rows
-  show NAME                 prints an object, whole
+  form NAME BYTES            reads a form
+  form NAME rows N BYTES     the same, with room for N rows
+  bank NAME variables W...   makes a bank: names of these widths
+  bank NAME nested WORD      the same: units of eight bytes, all WORD
+  bank NAME paired WORD      the same: cells of a byte, with the bytes of WORD
+  bank NAME frame BASE W...  the same: slots of these widths over a copy of BASE
+  put BANK A WORD            puts a word under a name
+  call-loss BANK WORD        the loss at a call
+  pause-loss BANK WORD       the loss at a pause
+  show NAME                  prints an object, whole
 
 # starts a comment. BYTES are pairs of hexadecimal digits, or @PATH for a file's.
 ";

@@ -1,5 +1,11 @@
 // The objects of a run, each under its name.
+use crate::any_bank::AnyBank;
 use crate::show::Counts;
+use banks::EitherBank;
+use banks::FrameBank;
+use banks::NestedBank;
+use banks::PairedBank;
+use banks::VariablesBank;
 use forms::Form;
 use forms::FormFault;
 use forms::Head;
@@ -33,6 +39,7 @@ impl FormText {
 #[derive(Drop)]
 pub enum Object {
     Form(FormText),
+    Bank(AnyBank),
 }
 
 // The named objects, all kinds in one namespace.
@@ -59,5 +66,10 @@ impl Objects {
     // The object of a name.
     pub fn find(&self, name: &str) -> Option<&Object> {
         self.table.get(name)
+    }
+
+    // The object of a name, to be changed.
+    pub fn find_mut(&mut self, name: &str) -> Option<&mut Object> {
+        self.table.get_mut(name)
     }
 }

@@ -1,8 +1,9 @@
-// How forms, rows and refusals are printed.
+// How forms, rows, banks and refusals are printed.
 ghost use mathlib.Core.Path.{_≡_};
 ghost use Rattle.std.specs.declared.option.Option.the-variants.{Some};
 ghost use Rattle.agree.specs.Labels.{label, operations, kinds, refusalText, countsText, rowText};
 use crate::objects::FormText;
+use banks::Bank;
 use forms::Form;
 use forms::Row;
 use numbers::Refusal;
@@ -170,4 +171,13 @@ pub fn write_form_text(out: &mut String, name: &str, text: &FormText) -> fmt::Re
         Ok(()) => write_form(out, name, &form),
         Err(fault) => writeln!(out, "form {name}: {}", RefusalText(fault.refusal())),
     }
+}
+
+// Prints a bank: what each name holds.
+pub fn write_bank<B: Bank>(out: &mut String, name: &str, bank: &B) -> fmt::Result {
+    write!(out, "bank {name}:")?;
+    for a in 0..bank.names() {
+        write!(out, " 0x{:x}", bank.look(a))?;
+    }
+    writeln!(out)
 }
