@@ -2,21 +2,25 @@
 use crate::commands::carry_out;
 use crate::faults::FaultDisplay;
 use crate::session::Session;
+use crate::words::Lines;
+use crate::words::LinesIterator;
 use std::alloc::AllocError;
 use std::test::*;
 
-// What a line, alone, prints, or the message where it is bad.
-fn answer(rt: &LibcRuntime, line: &[u8]) -> Result<String, AllocError> {
+// What lines print, or the message of the first that is bad.
+fn answer(rt: &LibcRuntime, lines: &[u8]) -> Result<String, AllocError> {
     let mut session = Session::new(rt.alloc());
-    match carry_out(rt, &mut session, line) {
-        Ok(()) => session.out.clone(),
-        Err(fault) => format!(rt.alloc(), "{fault}"),
+    for line in Lines::of(lines) {
+        if let Err(fault) = carry_out(rt, &mut session, line) {
+            return format!(rt.alloc(), "{fault}");
+        }
     }
+    session.out.clone()
 }
 
-// That a line, alone, answers so.
-fn answers(rt: &LibcRuntime, line: &[u8], expected: &str) -> Result<(), Fail> {
-    let said = answer(rt, line)?;
+// That lines, alone, answer so.
+fn answers(rt: &LibcRuntime, lines: &[u8], expected: &str) -> Result<(), Fail> {
+    let said = answer(rt, lines)?;
     check_eq(said.as_str(), expected)
 }
 
@@ -47,4 +51,29 @@ fn bad_words(rt: LibcRuntime) -> Result<(), Fail> {
 #[test]
 fn undefined_name(rt: LibcRuntime) -> Result<(), Fail> {
     answers(&rt, b"show a_b", "not defined: a_b")
+}
+
+#[test]
+fn bad_banks(rt: LibcRuntime) -> Result<(), Fail> {
+    answers(&rt, b"bank b", "a kind of bank is missing")?;
+    answers(&rt, b"bank b nest 1", "no such kind of bank: nest")?;
+    answers(&rt, b"bank b paired 1 2", "one word too many: 2")?;
+    answers(&rt, b"bank b variables 4 x", "not a number below 2^64: x")?;
+    answers(&rt, b"bank b frame a 4", "not defined: a")
+}
+
+#[test]
+fn bad_frames(rt: LibcRuntime) -> Result<(), Fail> {
+    answers(
+        &rt,
+        b"bank b paired 1\nbank f frame b 1\nbank g frame f 1\nbank h frame g 1",
+        "a frame over two frames: g",
+    )
+}
+
+#[test]
+fn bad_changes(rt: LibcRuntime) -> Result<(), Fail> {
+    answers(&rt, b"put b 256 1", "not a number below 256: 256")?;
+    answers(&rt, b"call-loss b", "a number is missing")?;
+    answers(&rt, b"form b 01 00 01 0a 3f\npause-loss b 1", "not a bank: b")
 }
