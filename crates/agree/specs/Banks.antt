@@ -16,7 +16,7 @@ use Rattle.banks.specs.Frame.{Framed, over, frame}
 use Rattle.banks.specs.Kind.{Kind}
 use Rattle.banks.specs.Made.{frameFault, Fresh}
 use Rattle.banks.specs.Nested.{nested, nestedFrom}
-use Rattle.banks.specs.Of.{tableOf, unitsOf, cellsIn, chosen}
+use Rattle.banks.specs.Meanings.{tableOf, unitsOf, bytesOf, chosen}
 use Rattle.banks.specs.Paired.{paired, pairedFrom}
 use Rattle.banks.specs.Table.{Table}
 use Rattle.banks.specs.Variables.{variables}
@@ -35,7 +35,7 @@ plain = oneOf variables (oneOf nested paired)
 
 -- What it means.
 abbrev pub plainMeaning : PlainBank → plain .Meaning
-plainMeaning = chosen (λ v. tableOf (v .cells)) (chosen unitsOf cellsIn)
+plainMeaning = chosen (λ v. tableOf (v .cells)) (chosen unitsOf bytesOf)
 
 -- What a frame means, by what the bank below means.
 abbrev pub frameMeaning : {B : Type 0} (k : Kind) → (B → k .Meaning) → Frame B → Framed k

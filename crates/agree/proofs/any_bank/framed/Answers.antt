@@ -3,7 +3,7 @@ use mathlib.Core.Logic.{inl, inr}
 use Rattle.std.specs.Options.{mapped}
 use Rattle.banks.specs.declared.either.Either.the-variants.{Second}
 use Rattle.banks.specs.Frame.{over, frame}
-use Rattle.banks.specs.Of.{tableOf}
+use Rattle.banks.specs.Meanings.{tableOf}
 use Rattle.agree.specs.Banks.{plain, plainMeaning, frameMeaning, anyMeaning, framedFault, NewFrame}
 use Rattle.agree.specs.declared.any_bank.FramedFault.the-variants.{Slots}
 use Rattle.agree.proofs.any_bank.framed.Needs as need
