@@ -1,18 +1,18 @@
 // The words after a command, each read as what the command takes.
 use crate::faults::Fault;
 use crate::faults::FaultFromRefused;
-use crate::names::name_of;
-use crate::numerals::PairsFault;
-use crate::numerals::byte_value;
-use crate::numerals::number_value;
-use crate::numerals::push_pairs;
-use crate::numerals::width_value;
-use crate::words::Words;
-use crate::words::WordsIterator;
 use std::alloc::Global;
 use std::fs;
 use std::io;
 use std::str::from_utf8;
+use texts::PairsFault;
+use texts::Words;
+use texts::WordsIterator;
+use texts::byte_value;
+use texts::name_of;
+use texts::number_value;
+use texts::push_pairs;
+use texts::width_value;
 
 // The next word, which is a name.
 pub fn next_name<'a>(words: &mut Words<'a>) -> Result<&'a str, Fault<'a>> {

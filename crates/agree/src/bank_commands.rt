@@ -1,33 +1,25 @@
 // The commands on banks.
-use crate::any_bank::AnyBank;
-use crate::any_bank::FramedFault;
-use crate::any_bank::framed;
-use crate::any_bank::nested;
-use crate::any_bank::paired;
-use crate::any_bank::variables;
+use banks::Bank;
+use banks::BankFault;
+use choices::AnyBank;
+use choices::AnyBankBank;
+use choices::Change;
+use choices::FramedFault;
 use crate::arguments::last_number;
 use crate::arguments::next_byte;
 use crate::arguments::next_name;
 use crate::arguments::rest_widths;
-use crate::changes::Change;
 use crate::faults::Fault;
 use crate::faults::FaultFromAlloc;
 use crate::faults::FaultFromFmt;
 use crate::objects::Object;
 use crate::objects::Objects;
 use crate::session::Session;
-use crate::show::RefusalText;
-use crate::show::RefusalTextDisplay;
-use crate::words::Words;
-use crate::words::WordsIterator;
-use banks::Bank;
-use banks::BankFault;
-use banks::EitherBank;
-use banks::FrameBank;
-use banks::NestedBank;
-use banks::PairedBank;
-use banks::VariablesBank;
 use std::alloc::Global;
+use texts::RefusalText;
+use texts::RefusalTextDisplay;
+use texts::Words;
+use texts::WordsIterator;
 
 // The bank of a name.
 fn bank_named<'a, 'b>(objects: &'b Objects, name: &'a str) -> Result<&'b AnyBank, Fault<'a>> {
@@ -83,7 +75,7 @@ fn define_variables<'a>(
     words: Words<'a>,
 ) -> Result<(), Fault<'a>> {
     let widths = rest_widths(heap, words)?;
-    match variables(&widths) {
+    match AnyBank::variables(&widths) {
         Ok(bank) => keep_bank(heap, session, name, bank),
         Err(fault) => refuse_bank(session, name, fault),
     }
@@ -99,7 +91,7 @@ fn define_frame<'a>(
     let base_name = next_name(&mut words)?;
     let base = bank_named(&session.objects, base_name)?;
     let widths = rest_widths(heap, words)?;
-    match framed(base, &widths) {
+    match base.framed(&widths) {
         Ok(bank) => keep_bank(heap, session, name, bank),
         Err(fault) => match fault {
             FramedFault::Layers => Err(Fault::TwoFrames(base_name)),
@@ -118,8 +110,8 @@ pub fn define_bank<'a>(
     let name = next_name(&mut words)?;
     match words.next() {
         Some(b"variables") => define_variables(heap, session, name, words),
-        Some(b"nested") => keep_bank(heap, session, name, nested(last_number(words)?)),
-        Some(b"paired") => keep_bank(heap, session, name, paired(last_number(words)?)),
+        Some(b"nested") => keep_bank(heap, session, name, AnyBank::nested(last_number(words)?)),
+        Some(b"paired") => keep_bank(heap, session, name, AnyBank::paired(last_number(words)?)),
         Some(b"frame") => define_frame(heap, session, name, words),
         Some(word) => Err(Fault::NoKind(word)),
         None => Err(Fault::Missing("a kind of bank")),

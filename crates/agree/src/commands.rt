@@ -1,4 +1,5 @@
 // The commands, each by its first word.
+use choices::AnyBankBank;
 use crate::arguments::next_name;
 use crate::arguments::no_more;
 use crate::bank_commands::define_bank;
@@ -12,13 +13,8 @@ use crate::objects::Object;
 use crate::session::Session;
 use crate::show::write_bank;
 use crate::show::write_form_text;
-use crate::words::Words;
-use crate::words::WordsIterator;
-use banks::EitherBank;
-use banks::FrameBank;
-use banks::NestedBank;
-use banks::PairedBank;
-use banks::VariablesBank;
+use texts::Words;
+use texts::WordsIterator;
 
 // `show NAME`: prints an object, whole.
 fn show_object<'a>(session: &mut Session, mut words: Words<'a>) -> Result<(), Fault<'a>> {

@@ -1,8 +1,4 @@
 // The commands on forms.
-ghost use mathlib.Core.Path.{_≡_};
-ghost use Prim.Native.Nat.{_≤_};
-ghost use lib.ListN.{length};
-ghost use Rattle.agree.specs.Storage.{stored};
 use crate::arguments::next_name;
 use crate::arguments::next_number;
 use crate::arguments::rest_bytes;
@@ -13,17 +9,18 @@ use crate::faults::FaultFromFmt;
 use crate::objects::FormText;
 use crate::objects::Object;
 use crate::session::Session;
-use crate::show::Counts;
-use crate::show::CountsDisplay;
-use crate::show::RefusalText;
-use crate::show::RefusalTextDisplay;
-use crate::words::Words;
 use forms::Head;
 use forms::Row;
 use forms::read_form;
 use numbers::Refusal;
 use std::alloc::AllocError;
 use std::alloc::Global;
+use texts::Counts;
+use texts::CountsDisplay;
+use texts::RefusalText;
+use texts::RefusalTextDisplay;
+use texts::Words;
+use texts::stored_rows;
 
 // The most rows that a form has.
 const MOST_ROWS: u64 = 512;
@@ -33,19 +30,6 @@ const MOST_ROWS: u64 = 512;
 enum Reading {
     Read(FormText, Counts),
     Refused(Refusal, usize),
-}
-
-// How many rows at the front of a buffer were stored.
-fn stored_rows(rows: &[Row]) -> usize
-    ensures count { λ r. ⌜ r ≡ stored (now (rows .entry)) ⌝ }
-    ensures within { λ r. ⌜ r ≤ length (now (rows .entry)) ⌝ }
-{
-    for (i, row) in rows.iter().enumerate() {
-        if row.kind == Row::NONE.kind {
-            return i;
-        }
-    }
-    rows.len()
 }
 
 // Reads a form into a buffer that has room for some rows.

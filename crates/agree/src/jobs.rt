@@ -3,11 +3,11 @@ use crate::commands::carry_out;
 use crate::demo::DEMO;
 use crate::faults::FaultDisplay;
 use crate::session::Session;
-use crate::words::Lines;
-use crate::words::LinesIterator;
 use std::fs;
-use std::io;
 use std::io::Read;
+use std::io;
+use texts::Lines;
+use texts::LinesIterator;
 
 // Why a run ended before its last line: at a line or a file, which it has told, or for want of input or output.
 #[derive(Clone, Copy)]

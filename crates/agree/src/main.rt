@@ -1,20 +1,14 @@
 // Carries out job files over the libraries of forms and banks.
-mod any_bank;
 mod arguments;
 mod bank_commands;
-mod changes;
-mod classes;
 mod commands;
 mod demo;
 mod faults;
 mod form_commands;
 mod jobs;
-mod names;
-mod numerals;
 mod objects;
 mod session;
 mod show;
-mod words;
 
 use jobs::Stopped;
 use jobs::StoppedFromIo;

@@ -1,11 +1,5 @@
 // The objects of a run, each under its name.
-use crate::any_bank::AnyBank;
-use crate::show::Counts;
-use banks::EitherBank;
-use banks::FrameBank;
-use banks::NestedBank;
-use banks::PairedBank;
-use banks::VariablesBank;
+use choices::AnyBank;
 use forms::Form;
 use forms::FormFault;
 use forms::Head;
@@ -13,6 +7,7 @@ use forms::Row;
 use std::alloc::AllocError;
 use std::alloc::Global;
 use std::collections::BTreeMap;
+use texts::Counts;
 
 // A form's rows and head, which a form borrows.
 #[derive(Drop)]

@@ -2,10 +2,10 @@
 use crate::commands::carry_out;
 use crate::faults::FaultDisplay;
 use crate::session::Session;
-use crate::words::Lines;
-use crate::words::LinesIterator;
 use std::alloc::AllocError;
 use std::test::*;
+use texts::Lines;
+use texts::LinesIterator;
 
 // What lines print, or the message of the first that is bad.
 fn answer(rt: &LibcRuntime, lines: &[u8]) -> Result<String, AllocError> {

@@ -1,4 +1,0 @@
-pub mod Fronts
-mod Lines
-pub mod Naming
-pub mod Numbers

@@ -1,0 +1,4 @@
+mod Cutting
+pub mod Fronts
+pub mod Naming
+pub mod Numbers
