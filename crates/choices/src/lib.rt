@@ -6,3 +6,6 @@ pub use any_bank::AnyBank;
 pub use any_bank::FramedFault;
 pub use any_bank::bank::AnyBankBank;
 pub use changes::Change;
+
+#[cfg(test)]
+mod tests;

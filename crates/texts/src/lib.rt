@@ -24,3 +24,6 @@ pub use words::Lines;
 pub use words::LinesIterator;
 pub use words::Words;
 pub use words::WordsIterator;
+
+#[cfg(test)]
+mod tests;
