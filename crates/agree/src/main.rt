@@ -1,4 +1,6 @@
 // Carries out job files over the libraries of forms and banks.
+#![tactic(auto)]
+
 mod arguments;
 mod bank_commands;
 mod commands;

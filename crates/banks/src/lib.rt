@@ -1,4 +1,6 @@
 // Banks: the interface, its laws, four kinds, one that is either of two, and what fits a bank.
+#![tactic(auto)]
+
 mod bank;
 mod cases;
 mod cells;

@@ -1,4 +1,6 @@
 // Choices: banks whose kind a program chooses while it runs, as one type, and changes of a bank as values.
+#![tactic(auto)]
+
 mod any_bank;
 mod changes;
 

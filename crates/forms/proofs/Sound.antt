@@ -12,7 +12,7 @@ use Rattle.forms.specs.declared.row.Head.{Head}
 use Rattle.forms.specs.declared.row.Row.{Row}
 use Rattle.forms.specs.Buffers.{over}
 use Rattle.forms.specs.Code.{Code, cut, code_of, head_of}
-use Rattle.forms.specs.Reading.{lifted, and_then, before, field_at, count_in, row_count_at, names_at, rows_at, blocks_at, reading, rows_after, head_after, Fills}
+use Rattle.forms.specs.Reading.{lifted, and_then, field_at, count_in, row_count_at, names_at, rows_at, blocks_at, reading, rows_after, head_after, Fills}
 use Rattle.forms.specs.Rules.{count_ok, blocks_ok, all_below, head_ok, rows_ok, form_ok}
 use Rattle.forms.proofs.Buffers.{length_over, over_start}
 use Rattle.forms.proofs.Outcomes.{and_then_all, go_on_all, before_all, block_then_all}

@@ -1,4 +1,6 @@
 // Forms: the rows of a control block, read into lent buffers and seen through a view.
+#![tactic(auto)]
+
 mod fault;
 mod form;
 mod limits;

@@ -1,5 +1,5 @@
 -- How a number is written, and what holds between writing and reading.
-use Rattle.std.specs.Prelude.{◌≡◌, ℕ, zero, suc, ◌+◌, ◌-◌, ◌/◌, ◌%◌, cond, List, [], ◌∷◌, ◌++◌, length, take, drop, Ok, nat_lt}
+use Rattle.std.specs.Prelude.{◌≡◌, ℕ, zero, suc, ◌+◌, ◌/◌, ◌%◌, cond, List, [], ◌∷◌, ◌++◌, length, take, drop, Ok, nat_lt}
 use Rattle.numbers.specs.declared.read.Parsed.{Parsed}
 use Rattle.numbers.specs.Reading.{number}
 

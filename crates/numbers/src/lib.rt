@@ -1,4 +1,6 @@
 // Numbers in groups of seven bits, and the refusal that all layers share.
+#![tactic(auto)]
+
 mod fault;
 mod read;
 mod refusal;

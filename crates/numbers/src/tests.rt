@@ -36,6 +36,8 @@ fn refuses_a_longer_writing(rt: HostRuntime) -> Result<(), Fail> {
 fn writes_the_largest(rt: HostRuntime) -> Result<(), Fail> {
     let mut out = Vec::new(rt.alloc());
     write_number(&mut out, u64::MAX)?;
-    assert!(rt; out.as_slice() == &[0xff, 0xff, 0xff, 0xff, 0xff, 0xff, 0xff, 0xff, 0xff, 0x01]);
+    assert!(rt;
+        out.as_slice() == [0xff, 0xff, 0xff, 0xff, 0xff, 0xff, 0xff, 0xff, 0xff, 0x01].as_slice()
+    );
     Ok(())
 }

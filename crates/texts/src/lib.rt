@@ -1,5 +1,7 @@
 // Texts: how a job file is cut into lines and words, which words are names and numbers, and how rows,
 // refusals and counts are printed.
+#![tactic(auto)]
+
 mod classes;
 mod labels;
 mod names;

@@ -5,21 +5,21 @@ use Rattle.forms.proofs.form.Form.block.Goals as goal
 pub returns-then-b-head : goal.returns-then-b-head
 returns-then-b-head c = no_block c.args.self.now.rows.now c.args.self.now.head.now c.args.self.now.sound c.args.b (omega arith)
 
-there : (c : goal.After-result-2·1) → c.rows-before-start.result + get_or c.args.self.now.head.now.counts c.args.b 0 ≤ length c.args.self.now.rows.now
+there : (c : goal.After-result-2-1) → c.rows_before-start.result + get_or c.args.self.now.head.now.counts c.args.b 0 ≤ length c.args.self.now.rows.now
 there c = omega (arith, block_there c.args.self.now.rows.now c.args.self.now.head.now c.args.self.now.sound c.args.b (omega arith))
 
-pub overflow-add-result : goal.overflow-add-result
-overflow-add-result c = let h = there c in omega arith
+pub overflow_add-result : goal.overflow_add-result
+overflow_add-result c = let h = there c in omega arith
 
-pub offset-bounds-self-start : goal.offset-bounds-self-start
-offset-bounds-self-start c = let h = there c in omega arith
+pub offset_bounds-self-start : goal.offset_bounds-self-start
+offset_bounds-self-start c = let h = there c in omega arith
 
-pub slice-bounds-result-end-2 : goal.slice-bounds-result-end-2
-slice-bounds-result-end-2 c = let h = there c in search rules
+pub slice_bounds-result-end-2 : goal.slice_bounds-result-end-2
+slice_bounds-result-end-2 c = let h = there c in search rules
 
 pub returns : goal.returns
 returns c =
-    let n : (c.rows-before-start.result + get_or c.args.self.now.head.now.counts c.args.b 0) - c.rows-before-start.result ≡ get_or c.args.self.now.head.now.counts c.args.b 0 = omega arith in
-    ap (λ (m : ℕ). take m (drop c.rows-before-start.result c.args.self.now.rows.now)) n
-    ∙ ap (λ (m : ℕ). take (get_or c.args.self.now.head.now.counts c.args.b 0) (drop m c.args.self.now.rows.now)) c.rows-before-start.ensures
+    let n : (c.rows_before-start.result + get_or c.args.self.now.head.now.counts c.args.b 0) - c.rows_before-start.result ≡ get_or c.args.self.now.head.now.counts c.args.b 0 = omega arith in
+    ap (λ (m : ℕ). take m (drop c.rows_before-start.result c.args.self.now.rows.now)) n
+    ∙ ap (λ (m : ℕ). take (get_or c.args.self.now.head.now.counts c.args.b 0) (drop m c.args.self.now.rows.now)) c.rows_before-start.ensures
     ∙ block_is c.args.self.now.rows.now c.args.self.now.head.now c.args.self.now.sound c.args.b (omega arith)

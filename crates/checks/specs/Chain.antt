@@ -4,12 +4,12 @@ use Rattle.std.specs.List.{range_with_len}
 use Rattle.forms.specs.Code.{Code}
 use Rattle.forms.specs.Rules.{code_ok}
 use Rattle.banks.specs.Kind.{Description, Described}
-use Rattle.check.specs.declared.pairs.Accepted.{Accepted}
-use Rattle.check.specs.declared.fault.ChainFault.TheVariants.{Lengths}
-use Rattle.check.specs.declared.fault.ChainFault.{ChainFault}
-use Rattle.check.specs.Check.{verdict}
-use Rattle.check.specs.Facts.{Facts}
-use Rattle.check.specs.Sheets.{Sheet, proposed}
+use Rattle.checks.specs.declared.pairs.Accepted.{Accepted}
+use Rattle.checks.specs.declared.fault.ChainFault.TheVariants.{Lengths}
+use Rattle.checks.specs.declared.fault.ChainFault.{ChainFault}
+use Rattle.checks.specs.Check.{verdict}
+use Rattle.checks.specs.Facts.{Facts}
+use Rattle.checks.specs.Sheets.{Sheet, proposed}
 
 -- Some number below n is one of a set.
 abbrev pub some_below : (ℕ → Bool) → ℕ → Bool

@@ -2,9 +2,9 @@
 use Rattle.std.specs.Prelude.{◌≡◌, ℕ, ◌+◌, Bool, true, false, List, [], ◌∷◌, length, IfOk, Result}
 use Rattle.forms.specs.declared.row.Row.{Row}
 use Rattle.forms.specs.Code.{Code}
-use Rattle.check.specs.declared.pairs.Accepted.{Accepted}
-use Rattle.check.specs.declared.fault.CheckFault.{CheckFault}
-use Rattle.check.specs.Check.{is_move}
+use Rattle.checks.specs.declared.pairs.Accepted.{Accepted}
+use Rattle.checks.specs.declared.fault.CheckFault.{CheckFault}
+use Rattle.checks.specs.Check.{is_move}
 
 -- Every row but a move is an act.
 abbrev pub acts_in : List Row → ℕ

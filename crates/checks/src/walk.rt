@@ -1,10 +1,10 @@
 // The walk of one block of a pair, past the moves of each form and then act by act.
 ghost use Rattle.std.specs.Prelude.{◌≡◌, ◌+◌, ◌<◌, ◌≤◌, true, length, drop, IfOk};
 ghost use Rattle.banks.specs.Outlines.{outlined};
-ghost use Rattle.check.specs.Check.{alike, matching, operands as inForce, after_acts, leading_moves, past_moves, moved_after, next_held, pair_fault, walk as walked};
-ghost use Rattle.check.specs.Facts.{within};
-ghost use Rattle.check.specs.Ranges.{names_low};
-ghost use Rattle.check.specs.Sheets.{proposed, facts_of};
+ghost use Rattle.checks.specs.Check.{alike, matching, operands as inForce, after_acts, leading_moves, past_moves, moved_after, next_held, pair_fault, walk as walked};
+ghost use Rattle.checks.specs.Facts.{within};
+ghost use Rattle.checks.specs.Ranges.{names_low};
+ghost use Rattle.checks.specs.Sheets.{proposed, facts_of};
 ghost use Rattle.std.specs.Result.{result_err};
 
 use crate::facts::{InForce, Outlines, width_of};

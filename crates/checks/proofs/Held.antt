@@ -8,9 +8,9 @@ use Rattle.banks.specs.Kind.{Description}
 use Rattle.banks.specs.Words.{bit}
 use Rattle.banks.proofs.Bits.{bit_none, bit_set}
 use Rattle.banks.specs.Splits.{by_equal}
-use Rattle.check.specs.Facts.{Facts, no_facts, apart, kept, write, move_before, move_after}
-use Rattle.check.specs.Sheets.{Sheet, proposed, held}
-use Rattle.check.specs.Words.{moved}
+use Rattle.checks.specs.Facts.{Facts, no_facts, apart, kept, write, move_before, move_after}
+use Rattle.checks.specs.Sheets.{Sheet, proposed, held}
+use Rattle.checks.specs.Words.{moved}
 
 -- Names below 64 are told by their bits; no other is in a fact.
 pub held_inside : (words : List ℕ) (x y : ℕ) → x < 64 → y < 64 → held words x y ≡ bit (get_or words x 0) y

@@ -1,10 +1,10 @@
 // The check of a pair.
 ghost use Rattle.std.specs.Prelude.{◌≡◌, ◌*◌, true, length};
 ghost use Rattle.banks.specs.Outlines.{outlined};
-ghost use Rattle.check.specs.Acts.{AllMatched};
-ghost use Rattle.check.specs.Check.{same_widths, same_shape, fault_unless, walk_blocks, sheet_fault, start_fault, fitting_verdict, verdict};
-ghost use Rattle.check.specs.Facts.{start_facts, missing};
-ghost use Rattle.check.specs.Sheets.{proposed, facts_of};
+ghost use Rattle.checks.specs.Acts.{AllMatched};
+ghost use Rattle.checks.specs.Check.{same_widths, same_shape, fault_unless, walk_blocks, sheet_fault, start_fault, fitting_verdict, verdict};
+ghost use Rattle.checks.specs.Facts.{start_facts, missing};
+ghost use Rattle.checks.specs.Sheets.{proposed, facts_of};
 ghost use Rattle.forms.specs.Rules.{all_below};
 ghost use Rattle.forms.specs.View.{code};
 ghost use Rattle.std.specs.Result.{result_err};

@@ -2,9 +2,9 @@
 ghost use Rattle.std.specs.Prelude.{◌≡◌, ℕ, ◌+◌, ◌*◌, ◌<◌, Bool, true, false, ◌&&◌, slice_index};
 ghost use Rattle.banks.specs.Outlines.{outlined};
 ghost use Rattle.banks.specs.Words.{bit};
-ghost use Rattle.check.specs.Facts.{no_facts, apart as untouched, kept, write as written, move_before, move_after, lose_at_call, lose_at_pause, first_below, missing};
-ghost use Rattle.check.specs.Sheets.{proposed as proposedBy, facts_of};
-ghost use Rattle.check.specs.Words.{fact_if, moved, Pairable};
+ghost use Rattle.checks.specs.Facts.{no_facts, apart as untouched, kept, write as written, move_before, move_after, lose_at_call, lose_at_pause, first_below, missing};
+ghost use Rattle.checks.specs.Sheets.{proposed as proposedBy, facts_of};
+ghost use Rattle.checks.specs.Words.{fact_if, moved, Pairable};
 
 use crate::fact::Fact;
 use banks::Outline;

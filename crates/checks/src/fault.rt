@@ -1,7 +1,7 @@
 // Why a pair is not accepted, or sheets are not chained.
 ghost use Rattle.std.specs.Prelude.{◌≡◌};
-ghost use Rattle.check.specs.Refusals.{at_rows, check_refusal, chain_refusal};
-ghost use Rattle.check.specs.declared.fault.CheckFault.TheVariants.{Fit};
+ghost use Rattle.checks.specs.Refusals.{at_rows, check_refusal, chain_refusal};
+ghost use Rattle.checks.specs.declared.fault.CheckFault.TheVariants.{Fit};
 
 use crate::fact::Fact;
 use banks::FitFault;

@@ -1,7 +1,7 @@
 // The chain of two sheets.
 ghost use Rattle.std.specs.Prelude.{◌≡◌, ℕ, ◌+◌, ◌*◌, ◌/◌, ◌%◌, ◌<◌, ◌≤◌, ◌&&◌, length, slice_index};
 ghost use Rattle.banks.specs.Words.{bit};
-ghost use Rattle.check.specs.Chain.{some_below, chain_word, lengths_ok, chaining, chain_into, PairsChain};
+ghost use Rattle.checks.specs.Chain.{some_below, chain_word, lengths_ok, chaining, chain_into, PairsChain};
 
 use crate::fault::ChainFault;
 

@@ -1,4 +1,6 @@
 // The check of a pair of forms by a sheet of facts, and the chain of sheets.
+#![tactic(auto)]
+
 mod fact;
 mod facts;
 mod fault;

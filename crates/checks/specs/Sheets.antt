@@ -1,8 +1,8 @@
 -- Sheets: the facts that are proposed for each block.
 use Rattle.std.specs.Prelude.{ℕ, ◌+◌, ◌*◌, Bool, ◌&&◌, List, nat_lt, slice_index}
 use Rattle.banks.specs.Words.{bit}
-use Rattle.check.specs.declared.facts.InForce.{InForce}
-use Rattle.check.specs.Facts.{Facts}
+use Rattle.checks.specs.declared.facts.InForce.{InForce}
+use Rattle.checks.specs.Facts.{Facts}
 
 -- A sheet has 64 words for each block.
 abbrev pub Sheet : Type 0

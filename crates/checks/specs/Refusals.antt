@@ -3,10 +3,10 @@ use Rattle.std.specs.Prelude.{ℕ}
 use Rattle.numbers.specs.Refusals.{at_place}
 use Rattle.numbers.specs.declared.refusal.Refusal.{Refusal}
 use Rattle.banks.specs.Refusals.{fit_refusal}
-use Rattle.check.specs.declared.fault.ChainFault.TheVariants.{Lengths}
-use Rattle.check.specs.declared.fault.ChainFault.{ChainFault}
-use Rattle.check.specs.declared.fault.CheckFault.TheVariants.{Fit, Shape, Length, Proposal, Start, Acts, Operand, Next}
-use Rattle.check.specs.declared.fault.CheckFault.{CheckFault}
+use Rattle.checks.specs.declared.fault.ChainFault.TheVariants.{Lengths}
+use Rattle.checks.specs.declared.fault.ChainFault.{ChainFault}
+use Rattle.checks.specs.declared.fault.CheckFault.TheVariants.{Fit, Shape, Length, Proposal, Start, Acts, Operand, Next}
+use Rattle.checks.specs.declared.fault.CheckFault.{CheckFault}
 
 -- A refusal that names a block and, of each side, a row; or two names in their place.
 abbrev pub at_rows : ℕ → ℕ → ℕ → ℕ → Refusal

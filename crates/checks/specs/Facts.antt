@@ -2,7 +2,7 @@
 use Rattle.std.specs.Prelude.{ℕ, zero, suc, Bool, true, false, not, ◌&&◌, ◌||◌, List, [], ◌∷◌, Some, None, Option, ◌==◌}
 use Rattle.banks.specs.Firsts.{◌otherwise◌}
 use Rattle.banks.specs.Kind.{Description}
-use Rattle.check.specs.declared.fact.Fact.{Fact}
+use Rattle.checks.specs.declared.fact.Fact.{Fact}
 
 -- A set of facts: whether (l, r) is one.
 abbrev pub Facts : Type 0

@@ -2,9 +2,9 @@
 use Rattle.std.specs.Prelude.{◌≡◌, ℕ, ◌<◌, Bool, true, false, ◌&&◌, Option, ◌==◌}
 use Rattle.banks.specs.Kind.{Description}
 use Rattle.banks.specs.Words.{bit}
-use Rattle.check.specs.declared.fact.Fact.{Fact}
-use Rattle.check.specs.Check.{may_pair}
-use Rattle.check.specs.Facts.{this_if}
+use Rattle.checks.specs.declared.fact.Fact.{Fact}
+use Rattle.checks.specs.Check.{may_pair}
+use Rattle.checks.specs.Facts.{this_if}
 
 -- The fact of l and a name of a set.
 abbrev pub fact_if : (ℕ → Bool) → ℕ → ℕ → Option Fact

@@ -8,13 +8,13 @@ use Rattle.banks.specs.declared.misfit.Side.TheVariants.{Before, After}
 use Rattle.banks.specs.Firsts.{◌otherwise◌}
 use Rattle.banks.specs.Fits.{unfit}
 use Rattle.banks.specs.Kind.{Description}
-use Rattle.check.specs.declared.pairs.Accepted.{Accepted}
-use Rattle.check.specs.declared.fact.Fact.{Fact}
-use Rattle.check.specs.declared.fault.CheckFault.TheVariants.{Fit, Shape, Length, Proposal, Start, Acts, Operand, Next}
-use Rattle.check.specs.declared.fault.CheckFault.{CheckFault}
-use Rattle.check.specs.declared.fault.Place.{Place}
-use Rattle.check.specs.Facts.{Facts, write, move_before, move_after, lose_at_call, lose_at_pause, start_facts, first_below, this_if, missing, within}
-use Rattle.check.specs.Sheets.{Sheet, proposed}
+use Rattle.checks.specs.declared.pairs.Accepted.{Accepted}
+use Rattle.checks.specs.declared.fact.Fact.{Fact}
+use Rattle.checks.specs.declared.fault.CheckFault.TheVariants.{Fit, Shape, Length, Proposal, Start, Acts, Operand, Next}
+use Rattle.checks.specs.declared.fault.CheckFault.{CheckFault}
+use Rattle.checks.specs.declared.fault.Place.{Place}
+use Rattle.checks.specs.Facts.{Facts, write, move_before, move_after, lose_at_call, lose_at_pause, start_facts, first_below, this_if, missing, within}
+use Rattle.checks.specs.Sheets.{Sheet, proposed}
 
 -- A fault, where a test does not hold.
 abbrev pub fault_unless : Bool → CheckFault → Option CheckFault
