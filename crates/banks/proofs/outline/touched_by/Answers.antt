@@ -9,7 +9,7 @@ loop-b-init g c = bits_none ((g.B.Bank.kind.describe (g.B.Bank.meaning c.args.ba
 pub loop-b-preserved : goal.loop-b-preserved
 loop-b-preserved g c =
     bits_more ((g.B.Bank.kind.describe (g.B.Bank.meaning c.args.bank.now)).touches c.args.a)
-    c.loop-b.b c.loop-b.word c.with-bit-word.result c.touches.result c.touches.ensures c.loop-b.invariant c.with-bit-word.ensures
+    c.loop-b.b c.loop-b.word c.with_bit-word.result c.touches.result c.touches.ensures c.loop-b.invariant c.with_bit-word.ensures
 
 pub returns : goal.returns
 returns g c =

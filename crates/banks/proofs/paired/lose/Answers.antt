@@ -10,7 +10,7 @@ pub loop-c-init : goal.loop-c-init
 loop-c-init c = front_none (λ k. byte_of c.args.w (k % 8)) (by_place c.args.cells.now)
 
 pub loop-c-preserved : goal.loop-c-preserved
-loop-c-preserved c = front_more (λ k. byte_of c.args.w (k % 8)) (by_place c.args.cells.now) c.loop-c.c c.loop-c.cells (omega arith) c.loop-c.invariant c.byte-of.result c.byte-of.ensures
+loop-c-preserved c = front_more (λ k. byte_of c.args.w (k % 8)) (by_place c.args.cells.now) c.loop-c.c c.loop-c.cells (omega arith) c.loop-c.invariant c.byte_of.result c.byte_of.ensures
 
 pub returns : goal.returns
 returns c =

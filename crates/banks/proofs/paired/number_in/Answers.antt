@@ -3,17 +3,17 @@ use Rattle.banks.specs.Meanings.{by_place}
 use Rattle.banks.specs.Pairs.{number_small, number_more}
 use Rattle.banks.proofs.paired.number_in.Goals as goal
 
-pub overflow-mul-number : goal.overflow-mul-number
-overflow-mul-number c =
+pub overflow_mul-number : goal.overflow_mul-number
+overflow_mul-number c =
     let small = number_small (by_place c.args.cells.now) (c.args.first + c.loop-i.i) (c.args.n - c.loop-i.i) (omega arith) in
     omega (arith, c.loop-i.invariant)
 
-pub overflow-add-number : goal.overflow-add-number
-overflow-add-number c =
+pub overflow_add-number : goal.overflow_add-number
+overflow_add-number c =
     let small = number_small (by_place c.args.cells.now) (c.args.first + c.loop-i.i) (c.args.n - c.loop-i.i) (omega arith) in
     omega (arith, c.loop-i.invariant)
 
 pub loop-i-preserved : goal.loop-i-preserved
 loop-i-preserved c =
     let step = number_more (by_place c.args.cells.now) c.args.first c.loop-i.i c.args.n (omega arith) (omega arith) in
-    omega (arith, step, c.loop-i.invariant, c.from.ensures, c.type-inv.cells (c.args.first + (c.loop-i.i - 1)))
+    omega (arith, step, c.loop-i.invariant, c.from.ensures, c.type_inv.cells (c.args.first + (c.loop-i.i - 1)))

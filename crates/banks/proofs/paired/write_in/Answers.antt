@@ -9,7 +9,7 @@ pub loop-i-init : goal.loop-i-init
 loop-i-init c = written_none (by_place c.args.cells.now) c.args.first c.args.w
 
 pub loop-i-preserved : goal.loop-i-preserved
-loop-i-preserved c = written_more c.loop-i.cells (by_place c.args.cells.now) c.args.first c.loop-i.i c.args.w (omega arith) c.loop-i.invariant c.byte-of.result c.byte-of.ensures
+loop-i-preserved c = written_more c.loop-i.cells (by_place c.args.cells.now) c.args.first c.loop-i.i c.args.w (omega arith) c.loop-i.invariant c.byte_of.result c.byte_of.ensures
 
 pub returns : goal.returns
 returns c =

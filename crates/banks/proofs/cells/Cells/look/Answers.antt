@@ -6,7 +6,7 @@ use Rattle.banks.proofs.cells.Cells.look.Goals as goal
 
 pub returns-then-a-self : goal.returns-then-a-self
 returns-then-a-self c =
-    c.low-bytes.ensures
+    c.low_bytes.ensures
     ∙ ap (λ (n : ℕ). lowest (get_or c.args.self.now.words c.args.a 0) n) (sym (get_or-take c.args.self.now.count c.args.self.now.widths c.args.a 0 (omega arith)))
 
 pub returns-else-a-self : goal.returns-else-a-self

@@ -6,5 +6,5 @@ use Rattle.banks.proofs.cells.Cells.new.Goals as goal
 
 pub returns : goal.returns
 returns c =
-    let e = c.if-not-all-widths.ensures in
+    let e = c.if-not-all_widths.ensures in
     record { fault = grind (arith, nat_tests); made = (c.spread.ensures, fun_ext (zeros 64)) }

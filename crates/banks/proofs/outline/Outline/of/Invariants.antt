@@ -3,4 +3,4 @@ use Rattle.banks.proofs.outline.Outline.of.Given as goal
 
 -- the names passed so far stand in the tables
 abbrev pub invariant-loop-a : goal.invariant-loop-a
-invariant-loop-a g l = Passed (g.B.Bank.kind.describe (g.B.Bank.meaning l.bank)) l.a l.widths l.touched l.over-call l.over-pause
+invariant-loop-a g l = Passed (g.B.Bank.kind.describe (g.B.Bank.meaning l.bank)) l.a l.widths l.touched l.over_call l.over_pause

@@ -4,8 +4,8 @@ use Rattle.banks.specs.Meanings.{table_of}
 use Rattle.banks.specs.Tables.{few_cells}
 use Rattle.banks.proofs.frame.layer.FrameBank.names.Goals as goal
 
-pub overflow-add-names : goal.overflow-add-names
-overflow-add-names g c = omega (arith, few_cells (table_of c.args.self.now.slots), (g.met.B.Bank.shows.described (g.B.Bank.meaning c.args.self.now.below)).few)
+pub overflow_add-names : goal.overflow_add-names
+overflow_add-names g c = omega (arith, few_cells (table_of c.args.self.now.slots), (g.met.B.Bank.shows.described (g.B.Bank.meaning c.args.self.now.below)).few)
 
 pub returns : goal.returns
 returns g c = omega (arith, (g.met.B.Bank.shows.described (g.B.Bank.meaning c.args.self.now.below)).few, length-take (64 - (g.B.Bank.kind.describe (g.B.Bank.meaning c.args.self.now.below)).names) (table_of c.args.self.now.slots).widths)
