@@ -15,6 +15,7 @@ mod show;
 use jobs::{Stopped, run_file};
 use session::Session;
 use std::env;
+use std::process::ExitCode;
 
 // What `agree --help` prints.
 const USAGE: &str = "usage: agree [FILE...]
@@ -57,12 +58,15 @@ fn run(rt: &HostRuntime) -> Result<(), Stopped> {
     Ok(())
 }
 
-fn main(rt: HostRuntime) -> Result<(), Stopped> {
-    let ended = run(&rt);
-    if let Err(Stopped::Failed(error)) = ended {
-        let _ = eprintln!(rt; "agree: {error}");
+fn main(rt: HostRuntime) -> ExitCode {
+    match run(&rt) {
+        Ok(()) => ExitCode::SUCCESS,
+        Err(Stopped::Told) => ExitCode::FAILURE,
+        Err(Stopped::Failed(error)) => {
+            let _ = eprintln!(rt; "agree: {error}");
+            ExitCode::FAILURE
+        }
     }
-    ended
 }
 
 #[cfg(test)]

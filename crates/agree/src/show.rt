@@ -2,11 +2,11 @@
 use crate::objects::FormText;
 use banks::Bank;
 use forms::{Form, Row};
-use std::fmt;
+use std::alloc::AllocError;
 use texts::{Counts, RefusalText, RowText};
 
 // Prints a form's parameters.
-fn write_parameters(out: &mut String, names: &[u8]) -> fmt::Result {
+fn write_parameters(out: &mut String, names: &[u8]) -> Result<(), AllocError> {
     write!(out, "parameters:")?;
     for name in names {
         write!(out, " {name}")?;
@@ -15,7 +15,7 @@ fn write_parameters(out: &mut String, names: &[u8]) -> fmt::Result {
 }
 
 // Prints the rows of a block.
-fn write_block(out: &mut String, block: u8, rows: &[Row]) -> fmt::Result {
+fn write_block(out: &mut String, block: u8, rows: &[Row]) -> Result<(), AllocError> {
     for (i, row) in rows.iter().enumerate() {
         writeln!(out, "block {block} row {i}: {}", RowText(*row))?;
     }
@@ -23,7 +23,7 @@ fn write_block(out: &mut String, block: u8, rows: &[Row]) -> fmt::Result {
 }
 
 // Prints a form, whole.
-fn write_form(out: &mut String, name: &str, form: &Form) -> fmt::Result {
+fn write_form(out: &mut String, name: &str, form: &Form) -> Result<(), AllocError> {
     writeln!(out, "form {name}: {}", Counts::of(form))?;
     write_parameters(out, form.parameters())?;
     for block in 0..form.blocks() {
@@ -33,7 +33,7 @@ fn write_form(out: &mut String, name: &str, form: &Form) -> fmt::Result {
 }
 
 // Prints a form's text as a form, or why it is none.
-pub fn write_form_text(out: &mut String, name: &str, text: &FormText) -> fmt::Result {
+pub fn write_form_text(out: &mut String, name: &str, text: &FormText) -> Result<(), AllocError> {
     let mut form = Form::give_zero();
     match text.fill(&mut form) {
         Ok(()) => write_form(out, name, &form),
@@ -42,7 +42,7 @@ pub fn write_form_text(out: &mut String, name: &str, text: &FormText) -> fmt::Re
 }
 
 // Prints a bank: what each name holds.
-pub fn write_bank<B: Bank>(out: &mut String, name: &str, bank: &B) -> fmt::Result {
+pub fn write_bank<B: Bank>(out: &mut String, name: &str, bank: &B) -> Result<(), AllocError> {
     write!(out, "bank {name}:")?;
     for a in 0..bank.names() {
         write!(out, " 0x{:x}", bank.look(a))?;

@@ -19,8 +19,11 @@ fn answer(rt: &HostRuntime, lines: &[u8]) -> Result<String, AllocError> {
 // That lines, alone, answer so.
 fn answers(rt: &HostRuntime, lines: &[u8], expected: &str) -> Result<(), Fail> {
     let said = answer(rt, lines)?;
-    assert_eq!(said.as_str(), expected);
-    Ok(())
+    if said.as_str() == expected {
+        Ok(())
+    } else {
+        Err(Fail::new("another answer"))
+    }
 }
 
 #[test]

@@ -1,2 +1,2 @@
 pub mod Banks
-pub mod AnyBankBankLemmas
+pub mod AnyBankLaws

@@ -4,7 +4,7 @@ ghost use Rattle.banks.specs.Either.{one_of};
 ghost use Rattle.banks.specs.Frame.{frame};
 ghost use Rattle.banks.specs.Eithers.{either_laws};
 ghost use Rattle.banks.specs.Frames.{frame_laws};
-ghost use Rattle.choices.specs.AnyBankBankLemmas.{plain_laws, framed_laws};
+ghost use Rattle.choices.specs.AnyBankLaws.{plain_laws, framed_laws};
 
 use crate::any_bank::AnyBank;
 use banks::Bank;

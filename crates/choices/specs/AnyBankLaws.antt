@@ -1,3 +1,4 @@
+-- Any bank keeps the laws, from the laws of what it is made of.
 use Rattle.banks.specs.Either.{one_of}
 use Rattle.banks.specs.Frame.{frame}
 use Rattle.banks.specs.Kind.{Laws}
