@@ -14,7 +14,7 @@ name = Some 63
 -- The kinds 0 to 10, in a form whose last block is `last`.
 abbrev pub kinds : ℕ → List Limits
 kinds last =
-    -- o        d     a     b     k           c      t            f
+    -- in the order o d a b k c t f
     fields None name name None None false None None  -- 0 move d s, where s stands in a
     ∷ fields None name None None None true None None  -- 1 constant d c
     ∷ fields (Some 11) name name name None false None None  -- 2 operate o d a b
