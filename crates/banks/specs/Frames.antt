@@ -103,6 +103,7 @@ module _ (k : Kind) (m : Framed k) where
     put_nowhere_lem : (a w : ℕ) → ((frame k).describe m).names ≤ a → (frame k).put m a w ≡ m
     put_nowhere_lem a w h = put_past a w (omega arith) (omega arith)
 
+-- A frame keeps the laws, if the bank below does.
 pub frame_laws : (k : Kind) → Laws k → Laws (frame k)
 frame_laws k L = record {
   described = λ m. frame_described k m L;

@@ -49,6 +49,7 @@ other_put units a b w h = by_order a 32
     (λ lb eb. simp eb (omega arith)))
     (λ la ea. ap (λ (x : ℕ → ℕ). nested_look x b) (put_nothing units a w la))
 
+-- Nested units keep the laws.
 pub nested_laws : Laws nested
 nested_laws = record {
   described = λ m. nested_described;

@@ -20,6 +20,7 @@ number_fits : (cells : ℕ → ℕ) (s n : ℕ) → number_in cells s n < 2 ^ (8
 number_fits cells s zero = omega arith
 number_fits cells s (suc n) = rw (pow_eight n) (omega (arith, number_fits cells (s + 1) n))
 
+-- What seven cells or fewer hold leaves room for one more in a word.
 pub number_small : (cells : ℕ → ℕ) (s n : ℕ) → n ≤ 7 → number_in cells s n < 2 ^ 56
 number_small cells s n h = lt_of_lt_of_le (number_fits cells s n) (pow_mono {i = 8 * n} {j = 56} (omega arith))
 
@@ -55,6 +56,7 @@ module _ (cells : ℕ → ℕ) (s n w : ℕ) where
   written_there : (c : ℕ) → among s n c ≡ false → written_in cells s n w c ≡ cells c
   written_there c h = cond-false (among s n c) (byte_of w (c - s)) (cells c) h
 
+-- Where no byte is written, every cell is as it was.
 pub written_none : (cells : ℕ → ℕ) (s w c : ℕ) → cells c ≡ written_in cells s 0 w c
 written_none cells s w c = sym (written_there cells s 0 w c (grind (arith, nat_tests)))
 
@@ -85,6 +87,7 @@ no_cells a h = grind (arith, nat_tests)
 meet : (s n t m c : ℕ) → among s n c ≡ true → among t m c ≡ true → overlap s n t m ≡ true
 meet s n t m c h l = grind (arith, nat_tests)
 
+-- Names touch exactly if they share a cell.
 pub touch_by_cells_lem : TouchByCells
 touch_by_cells_lem a b = (
   shared_cell (first_cell a) (cells_of a) (first_cell b) (cells_of b) (no_cells a) (no_cells b),
@@ -104,6 +107,7 @@ paired_described = record {
   not_over_pause = λ a h. refl;
 }
 
+-- Paired cells keep the laws.
 pub paired_laws : Laws paired
 paired_laws = record {
   described = λ m. paired_described;

@@ -19,6 +19,7 @@ width_at [] h a l = absurd (omega arith)
 width_at (w ∷ ws) h zero l = (and_parts (is_width w) (all_widths ws) h).0
 width_at (w ∷ ws) h (suc a) l = width_at ws (and_parts (is_width w) (all_widths ws) h).1 a (le_of_suc-le-suc l)
 
+-- The first of some widths are widths.
 pub widths_take : (n : ℕ) (ws : List ℕ) → all_widths ws ≡ true → all_widths (take n ws) ≡ true
 widths_take zero ws h = refl
 widths_take (suc n) [] h = refl
@@ -30,6 +31,7 @@ widths_take (suc n) (w ∷ ws) h =
 pub take_past : (n : ℕ) (l : List ℕ) (a : ℕ) → n ≤ a → slice_index (take n l) a ≡ 0
 take_past n l a h = get_or_past (take n l) a 0 (omega (arith, length-take n l))
 
+-- A list of zeros has 0 everywhere.
 pub zeros : (n a : ℕ) → slice_index_or {A = ℕ} (replicate n 0) a 0 ≡ 0
 zeros zero a = refl
 zeros (suc n) zero = refl
@@ -39,6 +41,7 @@ zeros (suc n) (suc a) = zeros n a
 pub widths_one : (ws : List ℕ) (i : ℕ) → i < length ws → all_widths (drop i ws) ≡ (is_width (slice_index ws i) && all_widths (drop (i + 1) ws))
 widths_one ws i h = at_drop_more all_widths ws i 0 h
 
+-- Past the last width there is none to look at.
 pub widths_all : (ws : List ℕ) (i : ℕ) → length ws ≤ i → all_widths (drop i ws) ≡ true
 widths_all ws i h = at_drop_all all_widths ws i h
 
@@ -99,6 +102,7 @@ variables_described ws some few good = record {
   not_over_pause = λ a h. grind (arith, nat_tests);
 }
 
+-- Variables keep the laws.
 pub variables_laws : Laws variables
 variables_laws = record {
   described = λ t. variables_described t.widths (some_cells t) (few_cells t) (good_cells t);

@@ -12,8 +12,10 @@ use Rattle.banks.specs.Pairs.{paired_laws}
 use Rattle.banks.specs.Tables.{variables_laws}
 use Rattle.choices.specs.Banks.{plain}
 
+-- A bank that is no frame keeps the laws.
 pub plain_laws : Laws plain
 plain_laws = either_laws variables (one_of nested paired) variables_laws (either_laws nested paired nested_laws paired_laws)
 
+-- So does a frame over one.
 pub framed_laws : Laws (frame plain)
 framed_laws = frame_laws plain plain_laws
