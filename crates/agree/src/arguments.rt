@@ -5,28 +5,28 @@ use std::str::from_utf8;
 use std::{fs, io};
 use texts::{PairsFault, Words, byte_value, name_of, number_value, push_pairs, width_value};
 
+// The next word, or what is missing. The three readers below stay apart: one function over the rule and the fault was
+// tried, and refused, since the fault borrows the word.
+pub fn next_word<'a>(words: &mut Words<'a>, what: &'static str) -> Result<&'a [u8], Fault<'a>> {
+    words.next().ok_or(Fault::Missing(what))
+}
+
 // The next word, which is a name.
 pub fn next_name<'a>(words: &mut Words<'a>) -> Result<&'a str, Fault<'a>> {
-    let Some(word) = words.next() else {
-        return Err(Fault::Missing("a name"));
-    };
+    let word = next_word(words, "a name")?;
     name_of(word).ok_or(Fault::BadName(word))
 }
 
 // The next word, which is a number.
 pub fn next_number<'a>(words: &mut Words<'a>) -> Result<u64, Fault<'a>> {
-    match words.next() {
-        Some(word) => number_value(word).ok_or(Fault::BadNumber(word)),
-        None => Err(Fault::Missing("a number")),
-    }
+    let word = next_word(words, "a number")?;
+    number_value(word).ok_or(Fault::BadNumber(word))
 }
 
 // The next word, which is a number below 256.
 pub fn next_byte<'a>(words: &mut Words<'a>) -> Result<u8, Fault<'a>> {
-    match words.next() {
-        Some(word) => byte_value(word).ok_or(Fault::BadByte(word)),
-        None => Err(Fault::Missing("a number")),
-    }
+    let word = next_word(words, "a number")?;
+    byte_value(word).ok_or(Fault::BadByte(word))
 }
 
 // The last word, which is a number.
@@ -48,10 +48,7 @@ pub fn skip_keyword(words: &mut Words, keyword: &[u8]) -> bool {
 
 // That no word is left.
 pub fn no_more<'a>(mut words: Words<'a>) -> Result<(), Fault<'a>> {
-    match words.next() {
-        Some(word) => Err(Fault::Extra(word)),
-        None => Ok(()),
-    }
+    words.next().map_or(Ok(()), |word| Err(Fault::Extra(word)))
 }
 
 // The widths that the words declare.
@@ -72,22 +69,17 @@ pub fn rest_bytes<'a>(rt: &HostRuntime, words: Words<'a>) -> Result<Vec<u8>, Fau
     }
     let mut bytes = Vec::new(rt.alloc());
     for word in words {
-        match push_pairs(&mut bytes, word) {
-            Ok(()) => {}
-            Err(PairsFault::NotPairs) => return Err(Fault::BadBytes(word)),
-            Err(PairsFault::Memory) => return Err(Fault::NoMemory),
-        }
+        push_pairs(&mut bytes, word).map_err(|fault| match fault {
+            PairsFault::NotPairs => Fault::BadBytes(word),
+            PairsFault::Memory => Fault::NoMemory,
+        })?;
     }
     Ok(bytes)
 }
 
 // The bytes of a file.
 fn file_bytes<'a>(rt: &HostRuntime, path: &'a [u8]) -> Result<Vec<u8>, Fault<'a>> {
-    let Ok(name) = from_utf8(path) else {
-        return Err(Fault::Unreadable(path, io::Error::from(io::ErrorKind::InvalidInput)));
-    };
-    match fs::read(rt, name) {
-        Ok(bytes) => Ok(bytes),
-        Err(error) => Err(Fault::Unreadable(path, error)),
-    }
+    let invalid = io::Error::from(io::ErrorKind::InvalidInput);
+    let name = from_utf8(path).map_err(|_| Fault::Unreadable(path, invalid))?;
+    fs::read(rt, name).map_err(|error| Fault::Unreadable(path, error))
 }

@@ -32,12 +32,6 @@ impl<'a, T: Drop> From<AllocFailed<T>> for Fault<'a> {
     }
 }
 
-impl<'a> From<fmt::Error> for Fault<'a> {
-    fn from(_e: fmt::Error) -> Fault<'a> {
-        Fault::NoMemory
-    }
-}
-
 // A word as a message shows it: its first bytes, and those that are no ASCII text by their numbers.
 #[derive(Clone, Copy)]
 struct Quoted<'a>(&'a [u8]);

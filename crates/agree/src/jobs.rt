@@ -20,21 +20,16 @@ impl From<io::Error> for Stopped {
 }
 
 // Carries out the lines of a text, up to the first that is bad.
-fn run_text(
-    rt: &HostRuntime,
-    session: &mut Session,
-    file: &str,
-    text: &[u8],
-) -> Result<(), Stopped> {
+fn run_text(session: &mut Session, file: &str, text: &[u8]) -> Result<(), Stopped> {
     for (i, line) in Lines::of(text).enumerate() {
-        if let Err(fault) = carry_out(rt, session, line) {
-            session.flush(rt)?;
-            eprintln!(rt; "{file}:{}: {fault}", i + 1)?;
+        if let Err(fault) = carry_out(session, line) {
+            session.flush()?;
+            eprintln!(session.rt; "{file}:{}: {fault}", i + 1)?;
             return Err(Stopped::Told);
         }
-        session.flush_much(rt)?;
+        session.flush_much()?;
     }
-    session.flush(rt)?;
+    session.flush()?;
     Ok(())
 }
 
@@ -45,17 +40,18 @@ fn input_bytes(rt: &HostRuntime) -> io::Result<Vec<u8>> {
     Ok(bytes)
 }
 
-// Carries out a job file: the demonstration, standard input, or a file by its path.
-pub fn run_file(rt: &HostRuntime, session: &mut Session, file: &str) -> Result<(), Stopped> {
+// Carries out a job file: the demonstration, standard input, or a file by its path. A match: each has its bytes from
+// elsewhere.
+pub fn run_file(session: &mut Session, file: &str) -> Result<(), Stopped> {
     let read = match file {
-        "--demo" => return run_text(rt, session, file, DEMO.as_bytes()),
-        "-" => input_bytes(rt),
-        path => fs::read(rt, path),
+        "--demo" => return run_text(session, file, DEMO.as_bytes()),
+        "-" => input_bytes(session.rt),
+        path => fs::read(session.rt, path),
     };
     match read {
-        Ok(text) => run_text(rt, session, file, &text),
+        Ok(text) => run_text(session, file, &text),
         Err(error) => {
-            eprintln!(rt; "{file}: cannot be read: {error}")?;
+            eprintln!(session.rt; "{file}: cannot be read: {error}")?;
             Err(Stopped::Told)
         }
     }

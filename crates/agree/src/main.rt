@@ -37,23 +37,23 @@ demonstration, which also runs where no file is named.
 ";
 
 // Carries out what an argument names.
-fn run_argument(rt: &HostRuntime, session: &mut Session, argument: &str) -> Result<(), Stopped> {
+fn run_argument(session: &mut Session, argument: &str) -> Result<(), Stopped> {
     if argument == "--help" {
-        rt.print(USAGE)?;
+        session.rt.print(USAGE)?;
         return Ok(());
     }
-    run_file(rt, session, argument)
+    run_file(session, argument)
 }
 
 // Carries out what the arguments name, or the demonstration where there are none.
 fn run(rt: &HostRuntime) -> Result<(), Stopped> {
-    let mut session = Session::new(rt.alloc());
+    let mut session = Session::new(rt);
     let arguments = env::args(rt)?;
     if arguments.len() < 2 {
-        return run_file(rt, &mut session, "--demo");
+        return run_file(&mut session, "--demo");
     }
     for argument in arguments.skip(1) {
-        run_argument(rt, &mut session, argument.as_str())?;
+        run_argument(&mut session, argument.as_str())?;
     }
     Ok(())
 }

@@ -54,7 +54,7 @@ impl Objects {
         Ok(())
     }
 
-    // The object of a name.
+    // The object of a name. To read and to change are two, as in the library: no function is over both borrows.
     pub fn find(&self, name: &str) -> Option<&Object> {
         self.table.get(name)
     }

@@ -1,4 +1,5 @@
-// How forms and banks are printed.
+// How forms and banks are printed, piece by piece: what was written stays where memory ends, which a Display, written
+// whole or not at all, would undo. The name goes beside what is printed, which does not know it.
 use crate::objects::FormText;
 use banks::Bank;
 use forms::{Form, Row};
@@ -22,7 +23,7 @@ fn write_block(out: &mut String, block: u8, rows: &[Row]) -> Result<(), AllocErr
     Ok(())
 }
 
-// Prints a form, whole.
+// Prints a form, whole. Its blocks are asked for by number, and each is printed with its number.
 fn write_form(out: &mut String, name: &str, form: &Form) -> Result<(), AllocError> {
     writeln!(out, "form {name}: {}", Counts::of(form))?;
     write_parameters(out, form.parameters())?;
@@ -37,11 +38,11 @@ pub fn write_form_text(out: &mut String, name: &str, text: &FormText) -> Result<
     let mut form = Form::give_zero();
     match text.fill(&mut form) {
         Ok(()) => write_form(out, name, &form),
-        Err(fault) => writeln!(out, "form {name}: {}", RefusalText(fault.refusal())),
+        Err(fault) => writeln!(out, "form {name}: {}", RefusalText(fault.into())),
     }
 }
 
-// Prints a bank: what each name holds.
+// Prints a bank: what each name holds. A bank's names are numbers, and it has no list of them to go over.
 pub fn write_bank<B: Bank>(out: &mut String, name: &str, bank: &B) -> Result<(), AllocError> {
     write!(out, "bank {name}:")?;
     for a in 0..bank.names() {

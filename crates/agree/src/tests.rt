@@ -7,9 +7,9 @@ use texts::Lines;
 
 // What lines print, or the message of the first that is bad.
 fn answer(rt: &HostRuntime, lines: &[u8]) -> Result<String, AllocError> {
-    let mut session = Session::new(rt.alloc());
+    let mut session = Session::new(rt);
     for line in Lines::of(lines) {
-        if let Err(fault) = carry_out(rt, &mut session, line) {
+        if let Err(fault) = carry_out(&mut session, line) {
             return format!(in rt.alloc(); "{fault}");
         }
     }

@@ -1,14 +1,10 @@
--- The bits of words.
-use Rattle.std.proofs.Common.{◌≡◌, ℕ, zero, suc, ◌+◌, ◌*◌, ◌/◌, ◌%◌, ◌^◌, ◌<◌, ◌≤◌, max, Bool, true, false, ◌&&◌, ◌||◌, eqb, ltb, sym, refl, ap, ◌∙◌, arith}
+-- The bits of words, for whoever works on words that stand for sets.
+use Rattle.std.proofs.Common.{◌≡◌, ℕ, zero, suc, ◌*◌, ◌/◌, ◌%◌, ◌^◌, ◌<◌, max, true, false, ◌&&◌, ◌||◌, eqb, sym, refl, ap, ◌∙◌, arith}
 use native.Mathlib.Nat.{zero-div, pow-succ', div-eq_of_lt, div-div-eq-div-mul}
 use lib.Bits.{bit_or, or_shr, or_step}
-use lib.Dec.{leb-suc-zero, eqb-suc-zero, eqb-zero-suc, eqb-suc-suc}
+use lib.Dec.{eqb-suc-zero, eqb-zero-suc, eqb-suc-suc}
 use Rattle.std.proofs.lemmas.Nat.{pow_below, one_shl}
-use Rattle.std.proofs.lemmas.Bool.{and_left}
-use Rattle.std.proofs.lemmas.Bool.Decides.{nat_tests}
-use Rattle.banks.specs.Outlines.{Bits}
 use Rattle.banks.specs.Words.{bit}
-use Rattle.banks.specs.Splits.{by_order, by_equal}
 
 max_digit : (p q : ℕ) → p < 2 → q < 2 → eqb (max p q) 1 ≡ (eqb p 1 || eqb q 1)
 max_digit zero zero h l = refl
@@ -46,21 +42,3 @@ bit_power (suc k) (suc r) = ap (λ w. eqb (w % 2) 1) halves ∙ bit_power k r �
 -- One more bit is set.
 pub bit_set : (word i k : ℕ) → i < 64 → bit (bit_or word ((1 * 2 ^ i) % 2 ^ 64)) k ≡ (bit word k || (true && eqb k i))
 bit_set word i k h = bit_of_or word ((1 * 2 ^ i) % 2 ^ 64) k ∙ ap (λ b. bit word k || b) (ap (λ w. bit w k) (one_shl i 64 h) ∙ bit_power i k)
-
--- A word that has the bits of a set below n, and no others: what the loops that collect bits keep.
-abbrev pub BitsBelow : (ℕ → Bool) → ℕ → ℕ → Type 0
-BitsBelow set n word = (k : ℕ) → bit word k ≡ (ltb k n && set k)
-
-module _ (set : ℕ → Bool) where
-  pub bits_none : BitsBelow set 0 0
-  bits_none k = bit_none k ∙ sym (and_left (ltb k 0) (set k) (leb-suc-zero k))
-
-  pub bits_more : (n word next : ℕ) (b : Bool) → b ≡ set n → BitsBelow set n word → ((k : ℕ) → bit next k ≡ (bit word k || (b && eqb k n))) → BitsBelow set (n + 1) next
-  bits_more n word next b e h s k = s k ∙ ap (λ x. x || (b && eqb k n)) (h k) ∙ one_more k
-    where
-      one_more : (k : ℕ) → ((ltb k n && set k) || (b && eqb k n)) ≡ (ltb k (n + 1) && set k)
-      one_more k = by_equal k n (λ q t. let same : set k ≡ b = ap set q ∙ sym e in grind (arith, nat_tests)) (λ q t. grind (arith, nat_tests))
-
-  -- A set of numbers below 64 is had whole.
-  pub bits_all : (n word : ℕ) → 64 ≤ n → ((k : ℕ) → 64 ≤ k → set k ≡ false) → BitsBelow set n word → Bits word set
-  bits_all n word l high h k = h k ∙ by_order k n (λ m t. simp t) (λ m t. simp t (sym (high k (omega arith))))

@@ -1,4 +1,7 @@
 pub mod Bits
+pub mod CellBytes
+pub mod CellTables
 pub mod Fitting
-pub mod Fronts
+pub mod FromFn
 pub mod Outlined
+pub mod Told

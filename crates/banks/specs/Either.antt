@@ -1,6 +1,7 @@
 -- A bank that is one of two: it answers and changes as the one it is.
 use Rattle.std.specs.Prelude.{ℕ, ◌⊎◌}
 use Rattle.std.proofs.Common.{inl, inr}
+use Rattle.banks.specs.declared.loss.Loss.{Loss}
 use Rattle.banks.specs.Kind.{Description, Kind}
 
 module _ (j k : Kind) where
@@ -23,15 +24,10 @@ module _ (j k : Kind) where
   put_one (inl m) a w = inl (j.put m a w)
   put_one (inr m) a w = inr (k.put m a w)
 
-  -- The loss at a call.
-  abbrev pub lose_one_at_call : OneOf → ℕ → OneOf
-  lose_one_at_call (inl m) w = inl (j.lose_at_call m w)
-  lose_one_at_call (inr m) w = inr (k.lose_at_call m w)
-
-  -- The loss at a pause.
-  abbrev pub lose_one_at_pause : OneOf → ℕ → OneOf
-  lose_one_at_pause (inl m) w = inl (j.lose_at_pause m w)
-  lose_one_at_pause (inr m) w = inr (k.lose_at_pause m w)
+  -- A loss.
+  abbrev pub lose_one : OneOf → Loss → ℕ → OneOf
+  lose_one (inl m) l w = inl (j.lose m l w)
+  lose_one (inr m) l w = inr (k.lose m l w)
 
   -- The kind.
   abbrev pub one_of : Kind
@@ -40,6 +36,5 @@ module _ (j k : Kind) where
     describe = describe_one;
     look = look_one;
     put = put_one;
-    lose_at_call = lose_one_at_call;
-    lose_at_pause = lose_one_at_pause;
+    lose = lose_one;
   }

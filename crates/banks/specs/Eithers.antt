@@ -1,7 +1,8 @@
 -- The laws of a bank that is one of two, from those of both.
 use Rattle.std.specs.Prelude.{◌≡◌, ℕ, ◌*◌, ◌%◌, ◌^◌, ◌<◌, ◌≤◌, true, false}
 use Rattle.std.proofs.Common.{ap, inl, inr}
-use Rattle.banks.specs.Either.{OneOf, describe_one, look_one, put_one, lose_one_at_call, lose_one_at_pause, one_of}
+use Rattle.banks.specs.declared.loss.Loss.{Loss}
+use Rattle.banks.specs.Either.{OneOf, describe_one, look_one, put_one, lose_one, one_of}
 use Rattle.banks.specs.Kind.{Kind, Laws, Described}
 
 module _ (j k : Kind) (J : Laws j) (K : Laws k) where
@@ -14,12 +15,10 @@ module _ (j k : Kind) (J : Laws j) (K : Laws k) where
   either_laws = record {
     described = by_one (λ m. Described (describe_one j k m)) J.described K.described;
     put_stays = by_one (λ m. (a w : ℕ) → describe_one j k (put_one j k m a w) ≡ describe_one j k m) J.put_stays K.put_stays;
-    call_stays = by_one (λ m. (w : ℕ) → describe_one j k (lose_one_at_call j k m w) ≡ describe_one j k m) J.call_stays K.call_stays;
-    pause_stays = by_one (λ m. (w : ℕ) → describe_one j k (lose_one_at_pause j k m w) ≡ describe_one j k m) J.pause_stays K.pause_stays;
+    loss_stays = by_one (λ m. (l : Loss) (w : ℕ) → describe_one j k (lose_one j k m l w) ≡ describe_one j k m) J.loss_stays K.loss_stays;
     look_fits = by_one (λ m. (a : ℕ) → look_one j k m a < 2 ^ (8 * (describe_one j k m).width a)) J.look_fits K.look_fits;
     put_seen = by_one (λ m. (a w : ℕ) → a < (describe_one j k m).names → look_one j k (put_one j k m a w) a ≡ w % 2 ^ (8 * (describe_one j k m).width a)) J.put_seen K.put_seen;
     put_leaves = by_one (λ m. (a b w : ℕ) → (describe_one j k m).touches a b ≡ false → look_one j k (put_one j k m a w) b ≡ look_one j k m b) J.put_leaves K.put_leaves;
     put_nowhere = by_one (λ m. (a w : ℕ) → (describe_one j k m).names ≤ a → put_one j k m a w ≡ m) (λ m a w h. ap inl (J.put_nowhere m a w h)) (λ m a w h. ap inr (K.put_nowhere m a w h));
-    call_keeps = by_one (λ m. (a w : ℕ) → (describe_one j k m).kept_over_call a ≡ true → look_one j k (lose_one_at_call j k m w) a ≡ look_one j k m a) J.call_keeps K.call_keeps;
-    pause_keeps = by_one (λ m. (a w : ℕ) → (describe_one j k m).kept_over_pause a ≡ true → look_one j k (lose_one_at_pause j k m w) a ≡ look_one j k m a) J.pause_keeps K.pause_keeps;
+    loss_keeps = by_one (λ m. (l : Loss) (a w : ℕ) → (describe_one j k m).kept_over l a ≡ true → look_one j k (lose_one j k m l w) a ≡ look_one j k m a) J.loss_keeps K.loss_keeps;
   }

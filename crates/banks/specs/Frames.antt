@@ -8,7 +8,7 @@ use Rattle.std.proofs.lemmas.Bool.Decides.{nat_tests}
 use Rattle.banks.specs.declared.fault.BankFault.TheVariants.{Names}
 use Rattle.banks.specs.declared.fault.BankFault.{BankFault}
 use Rattle.banks.specs.Firsts.{◌otherwise◌}
-use Rattle.banks.specs.Frame.{with_slots, named, Framed, over, names_below, slots_of, with_below, with_slot_words, frame}
+use Rattle.banks.specs.Frame.{with_slots, named, slot_at, Framed, over, names_below, slots_of, with_below, with_slot_words, frame}
 use Rattle.banks.specs.Kind.{Description, Kind, Described, Laws}
 use Rattle.banks.specs.Made.{table_fault, frame_fault}
 use Rattle.banks.specs.Table.{all_widths, cell_look, table_put}
@@ -29,8 +29,7 @@ slots_described d ws D good few = record {
   touches_back = back;
   no_width = λ a h. by_order a d.names (λ l e. absurd (omega arith)) (λ l e. simp e (get_or_past ws (a - d.names) 0 (omega arith)));
   no_touch = λ a b h. by_order a d.names (λ l e. absurd (omega arith)) (λ l e. simp e (grind (arith, nat_tests)));
-  not_over_call = λ a h. by_order a d.names (λ l e. absurd (omega arith)) (λ l e. simp e (grind (arith, nat_tests)));
-  not_over_pause = λ a h. by_order a d.names (λ l e. absurd (omega arith)) (λ l e. simp e (grind (arith, nat_tests)));
+  not_over = λ x a h. by_order a d.names (λ l e. absurd (omega arith)) (λ l e. simp e (grind (arith, nat_tests)));
 }
   where
     -- a name below does not touch a slot
@@ -108,14 +107,12 @@ pub frame_laws : (k : Kind) → Laws k → Laws (frame k)
 frame_laws k L = record {
   described = λ m. frame_described k m L;
   put_stays = λ m a w. by_order a (names_below k m) (λ l e. simp e (changed_described k m (k.put m.below a w) (L.put_stays m.below a w))) (λ l e. simp e);
-  call_stays = λ m w. changed_described k m (k.lose_at_call m.below w) (L.call_stays m.below w);
-  pause_stays = λ m w. changed_described k m (k.lose_at_pause m.below w) (L.pause_stays m.below w);
+  loss_stays = λ m x w. changed_described k m (k.lose m.below x w) (L.loss_stays m.below x w);
   look_fits = λ m a. by_order a (names_below k m) (λ l e. simp e (L.look_fits m.below a)) (λ l e. simp e (cell_fits (slots_of k m) m.slots.words (a - names_below k m)));
   put_seen = λ m. put_seen_lem k m L;
   put_leaves = λ m. put_leaves_lem k m L;
   put_nowhere = λ m. put_nowhere_lem k m L;
-  call_keeps = λ m a w h. kept_look k m (k.lose_at_call m.below w) (L.call_stays m.below w) a (λ l. L.call_keeps m.below a w (simp (lt-ltb a (names_below k m) l) at h));
-  pause_keeps = λ m a w h. kept_look k m (k.lose_at_pause m.below w) (L.pause_stays m.below w) a (λ l. L.pause_keeps m.below a w (simp (lt-ltb a (names_below k m) l) at h));
+  loss_keeps = λ m x a w h. kept_look k m (k.lose m.below x w) (L.loss_stays m.below x w) a (λ l. L.loss_keeps m.below x a w (simp (lt-ltb a (names_below k m) l) at h));
 }
 
 -- What the table of slots answers, of those that have a name; n is the number of names below, as the bank told it.
@@ -151,3 +148,40 @@ module _ (k : Kind) (m : Framed k) (n a : ℕ) (e : n ≡ names_below k m) (l : 
 
     pub past_put : (w : ℕ) → m ≡ (frame k).put m a w
     past_put w = sym (put_past k m a w (omega arith) (omega (arith, length-take (64 - names_below k m) m.slots.widths)))
+
+-- A name that is a slot has what the table has there.
+module _ (k : Kind) (m : Framed k) (a s : ℕ) (e : slot_at (names_below k m) a ≡ Some s) where
+  at_slot : (names_below k m ≤ a) × (a < 64) × (s ≡ a - names_below k m)
+  at_slot = grind (arith, nat_tests, e)
+
+  pub slot_has_width : slice_index m.slots.widths s ≡ ((frame k).describe m).width a
+  slot_has_width = ap (slice_index m.slots.widths) at_slot.2 ∙ slot_width k m (names_below k m) a refl at_slot.0 at_slot.1
+
+  pub slot_has_look : cell_look m.slots.widths m.slots.words s ≡ (frame k).look m a
+  slot_has_look = ap (cell_look m.slots.widths m.slots.words) at_slot.2 ∙ slot_look k m (names_below k m) a refl at_slot.0 at_slot.1
+
+  pub slot_is_put : (w : ℕ) → over k m.below (table_put m.slots s w) ≡ (frame k).put m a w
+  slot_is_put w = ap (λ (x : ℕ). over k m.below (table_put m.slots x w)) at_slot.2 ∙ slot_put k m (names_below k m) a refl at_slot.0 at_slot.1 w
+
+-- One that is no slot has what the bank below has: a name below, or nothing from 64 on.
+module _ (k : Kind) (m : Framed k) (L : Laws k) (a : ℕ) (e : slot_at (names_below k m) a ≡ None) where
+  past : names_below k m ≤ a → 64 ≤ a
+  past l = grind (arith, nat_tests, e)
+
+  pub below_has_width : (k.describe m.below).width a ≡ ((frame k).describe m).width a
+  below_has_width = by_order a (names_below k m)
+      (λ l t. simp t)
+      (λ l t. (L.described m.below).no_width a l ∙ past_width k m (names_below k m) a refl l (past l))
+
+  pub below_has_look : k.look m.below a ≡ (frame k).look m a
+  below_has_look = by_order a (names_below k m)
+      (λ l t. simp t)
+      (λ l t. nothing l ∙ past_look k m (names_below k m) a refl l (past l))
+    where
+      nothing : names_below k m ≤ a → k.look m.below a ≡ 0
+      nothing l = let b : k.look m.below a < 1 = rw ((L.described m.below).no_width a l) at (L.look_fits m.below a) in omega arith
+
+  pub below_is_put : (w : ℕ) → with_below k m (k.put m.below a w) ≡ (frame k).put m a w
+  below_is_put w = by_order a (names_below k m)
+      (λ l t. simp t)
+      (λ l t. ap (with_below k m) (L.put_nowhere m.below a w l) ∙ past_put k m (names_below k m) a refl l (past l) w)

@@ -9,6 +9,7 @@ pub mod Meanings
 pub mod Nested
 pub mod Outlines
 pub mod Paired
+pub mod Places
 pub mod Refusals
 pub mod Table
 pub mod Variables

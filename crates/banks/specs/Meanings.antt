@@ -6,7 +6,7 @@ use Rattle.banks.specs.declared.either.Either.TheVariants.{First, Second}
 use Rattle.banks.specs.declared.either.Either.{Either}
 use Rattle.banks.specs.declared.nested.Nested.{Nested}
 use Rattle.banks.specs.declared.paired.Paired.{Paired}
-use Rattle.banks.specs.Table.{Table}
+use Rattle.banks.specs.Table.{Table, widths_of, words_of}
 
 -- A list of numbers, by their places.
 abbrev pub by_place : List ℕ → (ℕ → ℕ)
@@ -14,7 +14,7 @@ by_place numbers = λ i. slice_index numbers i
 
 -- Cells are a table of as many widths as they count.
 abbrev pub table_of : Cells → Table
-table_of cells = record { widths = take cells.count cells.widths; words = by_place cells.words; sound = cells.sound.2 }
+table_of cells = record { widths = take cells.count (widths_of cells.cells); words = by_place (words_of cells.cells); sound = cells.sound.2 }
 
 -- The words of the units.
 abbrev pub units_of : Nested → (ℕ → ℕ)

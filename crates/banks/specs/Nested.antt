@@ -1,5 +1,7 @@
 -- Nested: units 0 to 7 of eight bytes, lowest byte first. Name 4 × u + k is the lowest 2^k bytes of unit u.
-use Rattle.std.specs.Prelude.{ℕ, ◌+◌, ◌*◌, ◌/◌, ◌%◌, ◌^◌, false, cond, ◌&&◌, ◌==◌, nat_le, nat_lt}
+use Rattle.std.specs.Prelude.{ℕ, ◌+◌, ◌*◌, ◌/◌, ◌%◌, ◌^◌, cond, ◌&&◌, ◌==◌, nat_le, nat_lt}
+use Rattle.banks.specs.declared.loss.Loss.{Loss}
+use Rattle.banks.specs.declared.loss.Loss.TheVariants.{Call, Pause}
 use Rattle.banks.specs.Kind.{Description, Kind}
 use Rattle.banks.specs.Words.{lowest}
 
@@ -15,14 +17,18 @@ nested_width a = cond (nat_lt a 32) (2 ^ (a % 4)) 0
 abbrev pub unit_after : ℕ → ℕ → ℕ → ℕ
 unit_after width old w = cond (nat_le width 2) (old / 2 ^ (8 * width) * 2 ^ (8 * width) + lowest w width) (lowest w width)
 
--- Two names touch if they share a unit. Units 4 to 7 are kept over a call, none over a pause.
+-- How many units a loss takes, the first of them: four at a call, and all at a pause.
+abbrev pub units_lost : Loss → ℕ
+units_lost Call = 4
+units_lost Pause = 8
+
+-- Two names touch if they share a unit. A name is kept over a loss that does not take its unit.
 abbrev pub nested_description : Description
 nested_description = record {
   names = 32;
   width = nested_width;
   touches = λ a b. nat_lt a 32 && (nat_lt b 32 && unit_of a == unit_of b);
-  kept_over_call = λ a. nat_lt a 32 && nat_le 4 (unit_of a);
-  kept_over_pause = λ a. false;
+  kept_over = λ l a. nat_lt a 32 && nat_le (units_lost l) (unit_of a);
 }
 
 -- What a name holds, where the units hold `units`.
@@ -48,6 +54,5 @@ nested = record {
   describe = λ units. nested_description;
   look = nested_look;
   put = nested_put;
-  lose_at_call = lost_units 4;
-  lose_at_pause = lost_units 8;
+  lose = λ units l w. lost_units (units_lost l) units w;
 }

@@ -1,15 +1,16 @@
 -- The laws of nested units.
-use Rattle.std.specs.Prelude.{◌≡◌, ℕ, zero, suc, ◌+◌, ◌*◌, ◌/◌, ◌%◌, ◌^◌, ◌<◌, ◌≤◌, true, false, List, length, ◌==◌, ◌≢◌, nat_eq, nat_le, nat_lt, slice_index, slice_set, refl}
-use Rattle.std.proofs.Common.{sym, ap, subst, ◌∙◌, arith}
+use Rattle.std.specs.Prelude.{◌≡◌, ℕ, zero, suc, ◌+◌, ◌*◌, ◌/◌, ◌%◌, ◌^◌, ◌<◌, ◌≤◌, true, false, List, length, nat_eq, nat_le, nat_lt, slice_index, slice_set, refl}
+use Rattle.std.proofs.Common.{ap, ◌∙◌, arith}
 use Rattle.std.proofs.Math.Path.{fun_ext}
 use Rattle.std.proofs.Math.Nat.{mod-mod}
-use Rattle.std.proofs.lemmas.Bool.{false≢true, lt-ltb, le-ltb, eq-eqb, cond-true, cond-false, and_parts, leb-true}
-use Rattle.std.proofs.lemmas.List.{get_or-set_same, get_or-set_other}
+use Rattle.std.proofs.lemmas.Bool.{lt-ltb, le-ltb, eq-eqb, cond-true, cond-false, and_parts, leb-true}
 use Rattle.std.proofs.lemmas.Bool.Decides.{nat_tests}
 use Rattle.std.proofs.lemmas.Nat.{pow_pos, mod_below, mod-mul-add}
+use Rattle.banks.specs.declared.loss.Loss.TheVariants.{Pause}
 use Rattle.banks.specs.Kind.{Described, Laws, is_width}
-use Rattle.banks.specs.Nested.{unit_of, nested_width, unit_after, nested_description, nested_look, nested_put, nested}
+use Rattle.banks.specs.Nested.{unit_of, nested_width, unit_after, units_lost, nested_description, nested_look, nested_put, nested}
 use Rattle.banks.specs.Words.{lowest}
+use Rattle.banks.specs.Places.{place_set}
 use Rattle.banks.specs.Splits.{by_order, by_equal}
 
 power_width : (k : ℕ) → k < 4 → is_width (2 ^ k) ≡ true
@@ -34,9 +35,12 @@ nested_described = record {
   touches_back = λ a b. grind (arith, nat_tests);
   no_width = λ a h. grind (arith, nat_tests);
   no_touch = λ a b h. grind (arith, nat_tests);
-  not_over_call = λ a h. grind (arith, nat_tests);
-  not_over_pause = λ a h. refl;
+  not_over = λ l a h. grind (arith, nat_tests);
 }
+
+-- No name is kept over a pause.
+pub none_over_pause : (a : ℕ) → nested_description.kept_over Pause a ≡ false
+none_over_pause a = grind (arith, nat_tests)
 
 -- A number that is no name puts nothing.
 put_nothing : (units : ℕ → ℕ) (a w : ℕ) → 32 ≤ a → nested_put units a w ≡ units
@@ -54,24 +58,16 @@ pub nested_laws : Laws nested
 nested_laws = record {
   described = λ m. nested_described;
   put_stays = λ m a w. refl;
-  call_stays = λ m w. refl;
-  pause_stays = λ m w. refl;
+  loss_stays = λ m l w. refl;
   look_fits = λ m a. mod_below (m (a / 4)) (2 ^ (8 * nested_width a)) (pow_pos (8 * nested_width a));
   put_seen = λ m a w h. let q = eq-eqb (a / 4) (a / 4) refl in simp q (put_low (nested_width a) (m (a / 4)) w);
   put_leaves = other_put;
   put_nowhere = put_nothing;
-  call_keeps = λ m a w h.
-      let l : 4 ≤ a / 4 = leb-true 4 (a / 4) (and_parts (nat_lt a 32) (nat_le 4 (a / 4)) h).1 in
-      simp (le-ltb (a / 4) 4 l);
-  pause_keeps = λ m a w h. absurd (false≢true h);
+  loss_keeps = λ m l a w h. simp (le-ltb (a / 4) (units_lost l) (leb-true (units_lost l) (a / 4) (and_parts (nat_lt a 32) (nat_le (units_lost l) (a / 4)) h).1));
 }
 
 -- A write to the list of units is a put.
 pub units_set : (l : List ℕ) (a w v : ℕ) → a / 4 < length l → v ≡ unit_after (nested_width a) (slice_index l (a / 4)) w → ◌≡◌ {A = ℕ → ℕ} (λ u. slice_index (slice_set l (a / 4) v) u) (nested_put (λ u. slice_index l u) a w)
-units_set l a w v i e = fun_ext (λ u. by_equal (a / 4) u (here u) (there u))
-  where
-    here : (u : ℕ) → a / 4 ≡ u → (a / 4 == u) ≡ true → slice_index (slice_set l (a / 4) v) u ≡ nested_put (λ u. slice_index l u) a w u
-    here u q t = subst (λ (u : ℕ). slice_index (slice_set l (a / 4) v) u ≡ unit_after (nested_width a) (slice_index l u) w) q (get_or-set_same l (a / 4) v 0 i ∙ e) ∙ sym (cond-true (a / 4 == u) (unit_after (nested_width a) (slice_index l u) w) (slice_index l u) t)
-
-    there : (u : ℕ) → (a / 4 ≢ u) → (a / 4 == u) ≡ false → slice_index (slice_set l (a / 4) v) u ≡ nested_put (λ u. slice_index l u) a w u
-    there u n t = get_or-set_other l (a / 4) u v 0 (λ q. n (sym q)) ∙ sym (simp t)
+units_set l a w v i e = fun_ext (λ u. place_set l (a / 4) v i u ∙ by_equal (a / 4) u
+    (λ q t. simp t (e ∙ ap (λ (x : ℕ). unit_after (nested_width a) (slice_index l x) w) q))
+    (λ n t. simp t))

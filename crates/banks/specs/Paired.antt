@@ -1,5 +1,7 @@
 -- Paired: one-byte cells 0 to 15, lowest first. Names are the cells, the aligned pairs, the aligned fours and the halves.
-use Rattle.std.specs.Prelude.{◌≡◌, ℕ, zero, suc, ◌+◌, ◌-◌, ◌*◌, ◌%◌, Bool, true, false, cond, ◌&&◌, Decides, nat_le, nat_lt}
+use Rattle.std.specs.Prelude.{◌≡◌, ℕ, zero, suc, ◌+◌, ◌-◌, ◌*◌, ◌%◌, Bool, true, cond, ◌&&◌, Decides, nat_le, nat_lt}
+use Rattle.banks.specs.declared.loss.Loss.{Loss}
+use Rattle.banks.specs.declared.loss.Loss.TheVariants.{Call, Pause}
 use Rattle.banks.specs.Kind.{Description, Kind}
 use Rattle.banks.specs.Words.{byte_of}
 
@@ -19,14 +21,18 @@ among first n c = nat_le first c && nat_lt c (first + n)
 abbrev pub overlap : ℕ → ℕ → ℕ → ℕ → Bool
 overlap s n t m = nat_lt s (t + m) && nat_lt t (s + n)
 
--- Two names touch if they share a cell. A name wholly in cells 8 to 15 is kept over a call, none over a pause.
+-- How many cells a loss takes, the first of them: eight at a call, and all at a pause.
+abbrev pub cells_lost : Loss → ℕ
+cells_lost Call = 8
+cells_lost Pause = 16
+
+-- Two names touch if they share a cell. A name is kept over a loss that takes none of its cells.
 abbrev pub paired_description : Description
 paired_description = record {
   names = 30;
   width = cells_of;
   touches = λ a b. overlap (first_cell a) (cells_of a) (first_cell b) (cells_of b);
-  kept_over_call = λ a. nat_lt a 30 && nat_le 8 (first_cell a);
-  kept_over_pause = λ a. false;
+  kept_over = λ l a. nat_lt a 30 && nat_le (cells_lost l) (first_cell a);
 }
 
 -- A cell is one of a name's.
@@ -61,6 +67,5 @@ paired = record {
   describe = λ cells. paired_description;
   look = λ cells a. number_in cells (first_cell a) (cells_of a);
   put = λ cells a w. written_in cells (first_cell a) (cells_of a) w;
-  lose_at_call = lost_cells 8;
-  lose_at_pause = lost_cells 16;
+  lose = λ cells l w. lost_cells (cells_lost l) cells w;
 }

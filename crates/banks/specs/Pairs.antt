@@ -1,14 +1,15 @@
 -- The laws of paired cells.
-use Rattle.std.specs.Prelude.{◌≡◌, ℕ, zero, suc, ◌+◌, ◌-◌, ◌*◌, ◌/◌, ◌%◌, ◌^◌, ◌<◌, ◌≤◌, Bool, true, false, cond, List, length, ◌==◌, ◌≢◌, nat_le, nat_lt, slice_index, slice_set, refl}
-use Rattle.std.proofs.Common.{sym, ap, ap₂, subst, ◌∙◌, arith, add-zero, le_trans, lt_of_lt_of_le, pow_mono}
+use Rattle.std.specs.Prelude.{◌≡◌, ℕ, zero, suc, ◌+◌, ◌-◌, ◌*◌, ◌/◌, ◌%◌, ◌^◌, ◌<◌, ◌≤◌, Bool, true, false, cond, List, length, nat_le, nat_lt, slice_index, slice_set, refl}
+use Rattle.std.proofs.Common.{sym, ap, ap₂, ◌∙◌, arith, add-zero, le_trans, lt_of_lt_of_le, pow_mono}
 use Rattle.std.proofs.Math.Path.{fun_ext}
 use Rattle.std.proofs.lemmas.Nat.{pow-add, mod-pow-add, shr-shr}
-use Rattle.std.proofs.lemmas.List.{get_or-set_same, get_or-set_other}
-use Rattle.std.proofs.lemmas.Bool.{false≢true, le-ltb, leb-true, and_parts, cond-true, cond-false}
+use Rattle.std.proofs.lemmas.Bool.{le-ltb, leb-true, and_parts, cond-true, cond-false}
 use Rattle.std.proofs.lemmas.Bool.Decides.{nat_tests}
+use Rattle.banks.specs.declared.loss.Loss.TheVariants.{Pause}
 use Rattle.banks.specs.Kind.{Described, Laws}
-use Rattle.banks.specs.Paired.{first_cell, cells_of, among, overlap, paired_description, TouchByCells, number_in, written_in, lost_cells, paired}
+use Rattle.banks.specs.Paired.{first_cell, cells_of, among, overlap, paired_description, TouchByCells, number_in, written_in, cells_lost, lost_cells, paired}
 use Rattle.banks.specs.Words.{byte_of}
+use Rattle.banks.specs.Places.{place_set}
 use Rattle.banks.specs.Splits.{by_order, by_equal}
 
 -- What some cells hold.
@@ -63,13 +64,9 @@ written_none cells s w c = sym (written_there cells s 0 w c (grind (arith, nat_t
 -- One more byte is written.
 pub written_more : (l : List ℕ) (cells : ℕ → ℕ) (s i w : ℕ) → s + i < length l → ((c : ℕ) → slice_index l c ≡ written_in cells s i w c)
     → (b : ℕ) → b ≡ byte_of w i → (c : ℕ) → slice_index (slice_set l (s + i) b) c ≡ written_in cells s (i + 1) w c
-written_more l cells s i w m h b e c = by_equal (s + i) c here there
-  where
-    here : s + i ≡ c → (s + i == c) ≡ true → slice_index (slice_set l (s + i) b) c ≡ written_in cells s (i + 1) w c
-    here q t = subst (λ (c : ℕ). slice_index (slice_set l (s + i) b) c ≡ written_in cells s (i + 1) w c) q (get_or-set_same l (s + i) b 0 m ∙ e ∙ sym (written_here cells s (i + 1) w i (omega arith)))
-
-    there : (s + i ≢ c) → (s + i == c) ≡ false → slice_index (slice_set l (s + i) b) c ≡ written_in cells s (i + 1) w c
-    there n t = get_or-set_other l (s + i) c b 0 (λ q. n (sym q)) ∙ h c ∙ ap (λ (x : Bool). cond x (byte_of w (c - s)) (cells c)) (grind (arith, nat_tests))
+written_more l cells s i w m h b e c = place_set l (s + i) b m c ∙ by_equal (s + i) c
+    (λ q t. simp t (e ∙ sym (written_here cells s (i + 1) w i (omega arith)) ∙ ap (written_in cells s (i + 1) w) q))
+    (λ n t. simp t (h c ∙ ap (λ (x : Bool). cond x (byte_of w (c - s)) (cells c)) (grind (arith, nat_tests))))
 
 -- Names that share no cell lie apart.
 apart : (s n t m c : ℕ) → overlap s n t m ≡ false → t ≤ c → c < t + m → among s n c ≡ false
@@ -94,6 +91,10 @@ touch_by_cells_lem a b = (
   λ p. meet (first_cell a) (cells_of a) (first_cell b) (cells_of b) p.0 p.1.0 p.1.1,
 )
 
+-- No name is kept over a pause.
+pub none_over_pause : (a : ℕ) → paired_description.kept_over Pause a ≡ false
+none_over_pause a = grind (arith, nat_tests)
+
 paired_described : Described paired_description
 paired_described = record {
   some = omega arith;
@@ -103,8 +104,7 @@ paired_described = record {
   touches_back = λ a b. grind (arith, nat_tests);
   no_width = λ a h. grind (arith, nat_tests);
   no_touch = λ a b h. grind (arith, nat_tests);
-  not_over_call = λ a h. grind (arith, nat_tests);
-  not_over_pause = λ a h. refl;
+  not_over = λ l a h. grind (arith, nat_tests);
 }
 
 -- Paired cells keep the laws.
@@ -112,17 +112,15 @@ pub paired_laws : Laws paired
 paired_laws = record {
   described = λ m. paired_described;
   put_stays = λ m a w. refl;
-  call_stays = λ m w. refl;
-  pause_stays = λ m w. refl;
+  loss_stays = λ m l w. refl;
   look_fits = λ m a. number_fits m (first_cell a) (cells_of a);
   put_seen = λ m a w h. number_bytes (written_in m (first_cell a) (cells_of a) w) w (first_cell a) (cells_of a) (written_here m (first_cell a) (cells_of a) w);
   put_leaves = λ m a b w h. number_same (written_in m (first_cell a) (cells_of a) w) m (first_cell b) (cells_of b)
       (λ c l k. written_there m (first_cell a) (cells_of a) w c (apart (first_cell a) (cells_of a) (first_cell b) (cells_of b) c h l k));
   put_nowhere = λ m a w h. fun_ext (λ c. written_there m (first_cell a) (cells_of a) w c (none (first_cell a) (cells_of a) c (paired_described.no_width a h)));
-  call_keeps = λ m a w h.
-      let high = leb-true 8 (first_cell a) (and_parts (nat_lt a 30) (nat_le 8 (first_cell a)) h).1 in
-      number_same (lost_cells 8 m w) m (first_cell a) (cells_of a) (λ c l k. cond-false (nat_lt c 8) (byte_of w (c % 8)) (m c) (le-ltb c 8 (le_trans high l)));
-  pause_keeps = λ m a w h. absurd (false≢true h);
+  loss_keeps = λ m x a w h.
+      let high = leb-true (cells_lost x) (first_cell a) (and_parts (nat_lt a 30) (nat_le (cells_lost x) (first_cell a)) h).1 in
+      number_same (lost_cells (cells_lost x) m w) m (first_cell a) (cells_of a) (λ c l k. cond-false (nat_lt c (cells_lost x)) (byte_of w (c % 8)) (m c) (le-ltb c (cells_lost x) (le_trans high l)));
 }
   where
     none : (s n c : ℕ) → n ≡ 0 → among s n c ≡ false

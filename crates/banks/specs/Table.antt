@@ -1,12 +1,21 @@
 -- A table of cells: variables are one, and so are the slots of a frame.
-use Rattle.std.specs.Prelude.{◌≡◌, ℕ, ◌≤◌, Bool, true, cond, ◌&&◌, List, [], ◌∷◌, length, take, ◌==◌, nat_le, nat_lt, slice_index}
+use Rattle.std.specs.Prelude.{◌≡◌, ℕ, ◌≤◌, Bool, true, cond, ◌&&◌, List, length, map, take, ◌==◌, nat_le, nat_lt, slice_index}
+use Rattle.std.specs.List.{list_all}
+use Rattle.banks.specs.declared.cells.Cell.{Cell}
 use Rattle.banks.specs.Kind.{is_width}
 use Rattle.banks.specs.Words.{lowest}
 
+-- The widths of cells.
+abbrev pub widths_of : List Cell → List ℕ
+widths_of cells = map (λ c. c.width) cells
+
+-- Their words.
+abbrev pub words_of : List Cell → List ℕ
+words_of cells = map (λ c. c.word) cells
+
 -- All numbers of a list are widths.
 abbrev pub all_widths : List ℕ → Bool
-all_widths [] = true
-all_widths (w ∷ widths) = is_width w && all_widths widths
+all_widths widths = list_all is_width widths
 
 -- A table has 1 to 64 cells, each with a width.
 abbrev pub table_ok : List ℕ → Bool

@@ -1,17 +1,18 @@
 -- Tables of cells, and the laws of variables.
-use Rattle.std.specs.Prelude.{◌≡◌, ℕ, zero, suc, ◌+◌, ◌*◌, ◌%◌, ◌^◌, ◌<◌, ◌≤◌, true, false, ◌&&◌, List, [], ◌∷◌, length, take, drop, replicate, ◌==◌, ◌≢◌, nat_le, nat_lt, slice_index, slice_index_or, slice_set, refl}
-use Rattle.std.proofs.Common.{sym, ap, subst, ◌∙◌, arith, le_of_suc-le-suc}
+use Rattle.std.specs.Prelude.{◌≡◌, ℕ, zero, suc, ◌+◌, ◌*◌, ◌%◌, ◌^◌, ◌<◌, ◌≤◌, Bool, true, false, cond, ◌&&◌, List, [], ◌∷◌, length, take, drop, replicate, ◌==◌, nat_le, nat_lt, slice_index, slice_index_or, slice_set, refl}
+use Rattle.std.proofs.Common.{sym, ap, ◌∙◌, arith, le_of_suc-le-suc}
 use Rattle.std.proofs.Math.Path.{fun_ext}
 use Rattle.std.proofs.Math.Bool.{Bool-set}
 use mathlib.Core.HLevel.{is_prop→PathP}
-use Rattle.std.proofs.lemmas.Bool.{lt-ltb, leb-true, cond-true, cond-false, and_parts, and_from}
-use Rattle.std.proofs.lemmas.List.{get_or-set_same, get_or-set_other, get_or_past, length-take, at_drop_more, at_drop_all}
+use Rattle.std.proofs.lemmas.Bool.{leb-true, cond-true, cond-false, and_parts}
+use Rattle.std.proofs.lemmas.List.{get_or_past, length-take, take-append-drop, at_drop_more, at_drop_all}
+use Rattle.std.proofs.lemmas.List.Folds.{list_all-append}
 use Rattle.std.proofs.lemmas.Bool.Decides.{nat_tests}
 use Rattle.std.proofs.lemmas.Nat.{pow_pos, mod_below}
 use Rattle.banks.specs.Kind.{Described, Laws, is_width}
 use Rattle.banks.specs.Table.{all_widths, table_ok, Table, cell_look, cell_put}
 use Rattle.banks.specs.Variables.{variables_of, variables}
-use Rattle.banks.specs.Splits.{by_equal}
+use Rattle.banks.specs.Places.{place_set}
 
 -- Declared widths, by their places.
 pub width_at : (ws : List ℕ) → all_widths ws ≡ true → (a : ℕ) → a < length ws → is_width (slice_index ws a) ≡ true
@@ -21,11 +22,7 @@ width_at (w ∷ ws) h (suc a) l = width_at ws (and_parts (is_width w) (all_width
 
 -- The first of some widths are widths.
 pub widths_take : (n : ℕ) (ws : List ℕ) → all_widths ws ≡ true → all_widths (take n ws) ≡ true
-widths_take zero ws h = refl
-widths_take (suc n) [] h = refl
-widths_take (suc n) (w ∷ ws) h =
-    let p = and_parts (is_width w) (all_widths ws) h in
-    and_from (is_width w) (all_widths (take n ws)) p.0 (widths_take n ws p.1)
+widths_take n ws h = (and_parts (all_widths (take n ws)) (all_widths (drop n ws)) (sym (list_all-append is_width (take n ws) (drop n ws)) ∙ ap all_widths (take-append-drop n ws) ∙ h)).0
 
 -- The first of a list, by their places.
 pub take_past : (n : ℕ) (l : List ℕ) (a : ℕ) → n ≤ a → slice_index (take n l) a ≡ 0
@@ -37,7 +34,7 @@ zeros zero a = refl
 zeros (suc n) zero = refl
 zeros (suc n) (suc a) = zeros n a
 
--- One turn of the loop that looks at each width.
+-- One width more is looked at.
 pub widths_one : (ws : List ℕ) (i : ℕ) → i < length ws → all_widths (drop i ws) ≡ (is_width (slice_index ws i) && all_widths (drop (i + 1) ws))
 widths_one ws i h = at_drop_more all_widths ws i 0 h
 
@@ -68,13 +65,7 @@ same_table s t p q = λ i. record {
 
 -- A write to a list of words is a put into the cell of its place.
 pub words_set : (ws l : List ℕ) (a w : ℕ) → a < length l → a < length ws → ◌≡◌ {A = ℕ → ℕ} (λ b. slice_index (slice_set l a w) b) (cell_put ws (λ b. slice_index l b) a w)
-words_set ws l a w i h = fun_ext (λ b. by_equal a b (here b) (other b))
-  where
-    here : (b : ℕ) → a ≡ b → (a == b) ≡ true → slice_index (slice_set l a w) b ≡ cell_put ws (λ b. slice_index l b) a w b
-    here b e t = subst (λ (b : ℕ). slice_index (slice_set l a w) b ≡ w) e (get_or-set_same l a w 0 i) ∙ sym (cond-true (a == b && nat_lt a (length ws)) w (slice_index l b) (and_from _ _ t (lt-ltb a (length ws) h)))
-
-    other : (b : ℕ) → (a ≢ b) → (a == b) ≡ false → slice_index (slice_set l a w) b ≡ cell_put ws (λ b. slice_index l b) a w b
-    other b n t = get_or-set_other l a b w 0 (λ e. n (sym e)) ∙ sym (simp t)
+words_set ws l a w i h = fun_ext (λ b. place_set l a w i b ∙ ap (λ (t : Bool). cond t w (slice_index l b)) (grind (arith, nat_tests)))
 
 module _ (ws : List ℕ) (words : ℕ → ℕ) where
   pub cell_fits : (a : ℕ) → cell_look ws words a < 2 ^ (8 * slice_index ws a)
@@ -98,8 +89,7 @@ variables_described ws some few good = record {
   touches_back = λ a b. grind (arith, nat_tests);
   no_width = λ a h. get_or_past ws a 0 h;
   no_touch = λ a b h. grind (arith, nat_tests);
-  not_over_call = λ a h. grind (arith, nat_tests);
-  not_over_pause = λ a h. grind (arith, nat_tests);
+  not_over = λ l a h. grind (arith, nat_tests);
 }
 
 -- Variables keep the laws.
@@ -107,12 +97,10 @@ pub variables_laws : Laws variables
 variables_laws = record {
   described = λ t. variables_described t.widths (some_cells t) (few_cells t) (good_cells t);
   put_stays = λ t a w. refl;
-  call_stays = λ t w. refl;
-  pause_stays = λ t w. refl;
+  loss_stays = λ t l w. refl;
   look_fits = λ t a. cell_fits t.widths t.words a;
   put_seen = λ t a w h. cell_seen t.widths t.words a w h;
   put_leaves = λ t a b w h. cell_left t.widths t.words a b w h;
   put_nowhere = λ t a w h. same_table _ t refl (cell_none t.widths t.words a w h);
-  call_keeps = λ t a w h. refl;
-  pause_keeps = λ t a w h. refl;
+  loss_keeps = λ t l a w h. refl;
 }

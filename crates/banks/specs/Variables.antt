@@ -9,8 +9,7 @@ variables_of widths = record {
   names = length widths;
   width = λ a. slice_index widths a;
   touches = λ a b. (a == b) && nat_lt a (length widths);
-  kept_over_call = λ a. nat_lt a (length widths);
-  kept_over_pause = λ a. nat_lt a (length widths);
+  kept_over = λ l a. nat_lt a (length widths);
 }
 
 -- The kind: each name is a cell of a table, and nothing is lost.
@@ -20,6 +19,5 @@ variables = record {
   describe = λ t. variables_of t.widths;
   look = λ t a. cell_look t.widths t.words a;
   put = table_put;
-  lose_at_call = λ t w. t;
-  lose_at_pause = λ t w. t;
+  lose = λ t l w. t;
 }

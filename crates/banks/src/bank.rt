@@ -2,8 +2,11 @@
 ghost use Rattle.std.specs.Prelude.{◌≡◌};
 ghost use Rattle.banks.specs.Kind.{Kind, Laws};
 
+use crate::loss::Loss;
+
 // A bank has 1 to 64 names, numbered from 0. Every question and every change is total: a number that is no
-// name has width 0 and look 0, touches nothing and is not kept, and a put under it does nothing.
+// name has width 0 and look 0, touches nothing and is not kept, and a put under it does nothing. Name, loss
+// and word stay separate arguments: any goes with any, so a struct of two would hold no fact.
 pub trait Bank {
     // what banks of this kind can mean, and what each question and change does to a meaning
     ghost kind: { Kind };
@@ -23,13 +26,9 @@ pub trait Bank {
     fn touches(&self, a: u8, b: u8) -> bool
         ensures { result ≡ (kind.describe (meaning self.now)).touches a b };
 
-    // Whether a name keeps its look over a call.
-    fn kept_over_call(&self, a: u8) -> bool
-        ensures { result ≡ (kind.describe (meaning self.now)).kept_over_call a };
-
-    // Whether a name keeps its look over a pause.
-    fn kept_over_pause(&self, a: u8) -> bool
-        ensures { result ≡ (kind.describe (meaning self.now)).kept_over_pause a };
+    // Whether a name keeps its look over a loss.
+    fn kept_over(&self, loss: Loss, a: u8) -> bool
+        ensures { result ≡ (kind.describe (meaning self.now)).kept_over loss a };
 
     // The look: the number that a name holds.
     fn look(&self, a: u8) -> u64
@@ -39,13 +38,9 @@ pub trait Bank {
     fn put(&mut self, a: u8, w: u64)
         ensures { meaning self.new ≡ kind.put (meaning self.old) a w };
 
-    // The loss at a call: what is not kept over it may take bytes of the word.
-    fn lose_at_call(&mut self, w: u64)
-        ensures { meaning self.new ≡ kind.lose_at_call (meaning self.old) w };
-
-    // The loss at a pause.
-    fn lose_at_pause(&mut self, w: u64)
-        ensures { meaning self.new ≡ kind.lose_at_pause (meaning self.old) w };
+    // A loss: what is not kept over it may take bytes of the word.
+    fn lose(&mut self, loss: Loss, w: u64)
+        ensures { meaning self.new ≡ kind.lose (meaning self.old) loss w };
 
     // the laws that code over any bank rests on
     ghost shows: { Laws kind };

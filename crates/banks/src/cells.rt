@@ -1,13 +1,20 @@
 // The cells that variables and slots are kept in.
-ghost use Rattle.banks.specs.Table.{Sound};
+ghost use Rattle.banks.specs.Table.{Sound, widths_of};
 
 mod parts;
 
-// A table of 1 to 64 cells: the width of each, and a word, of which a cell holds the lowest bytes.
+// A cell: its width, and a word, of which it holds the lowest bytes.
+#[derive(Clone, Copy)]
+struct Cell {
+    width: u8,
+    word: u64,
+}
+
+// A table of 1 to 64 cells. The count stands beside a row of 64: a bank is Copy, which a vector is not.
+// Clauses say what it means by `table_of`: a model of a Copy type would have to keep what stands past the count.
 #[derive(Clone, Copy)]
 pub(crate) struct Cells {
     count: u8,
-    widths: [u8; 64],
-    words: [u64; 64],
-    ghost sound: { Sound count widths },
+    cells: [Cell; 64],
+    ghost sound: { Sound count (widths_of cells) },
 }

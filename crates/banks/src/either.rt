@@ -4,14 +4,16 @@ ghost use Rattle.banks.specs.Meanings.{chosen};
 ghost use Rattle.banks.specs.Eithers.{either_laws};
 
 use crate::bank::Bank;
+use crate::loss::Loss;
 
-// One of two banks.
+// One of two banks. Both are banks alike, so that a Result, which calls one an error, would say too much.
 #[derive(Drop, Clone, Copy)]
 pub enum Either<A, B> {
     First(A),
     Second(B),
 }
 
+// Each method asks the one it is. Only a macro would say that once, and the gate takes no impl by a macro of ours.
 impl<A: Bank, B: Bank> Bank for Either<A, B> {
     ghost kind = { one_of A.Bank.kind B.Bank.kind };
 
@@ -40,17 +42,10 @@ impl<A: Bank, B: Bank> Bank for Either<A, B> {
         }
     }
 
-    fn kept_over_call(&self, a: u8) -> bool {
+    fn kept_over(&self, loss: Loss, a: u8) -> bool {
         match self {
-            Either::First(bank) => bank.kept_over_call(a),
-            Either::Second(bank) => bank.kept_over_call(a),
-        }
-    }
-
-    fn kept_over_pause(&self, a: u8) -> bool {
-        match self {
-            Either::First(bank) => bank.kept_over_pause(a),
-            Either::Second(bank) => bank.kept_over_pause(a),
+            Either::First(bank) => bank.kept_over(loss, a),
+            Either::Second(bank) => bank.kept_over(loss, a),
         }
     }
 
@@ -68,17 +63,10 @@ impl<A: Bank, B: Bank> Bank for Either<A, B> {
         }
     }
 
-    fn lose_at_call(&mut self, w: u64) {
+    fn lose(&mut self, loss: Loss, w: u64) {
         match self {
-            Either::First(bank) => bank.lose_at_call(w),
-            Either::Second(bank) => bank.lose_at_call(w),
-        }
-    }
-
-    fn lose_at_pause(&mut self, w: u64) {
-        match self {
-            Either::First(bank) => bank.lose_at_pause(w),
-            Either::Second(bank) => bank.lose_at_pause(w),
+            Either::First(bank) => bank.lose(loss, w),
+            Either::Second(bank) => bank.lose(loss, w),
         }
     }
 }

@@ -14,15 +14,13 @@ pub enum BankFault {
     Names,
 }
 
-impl BankFault {
+impl From<BankFault> for Refusal {
+    ghost from_gives = { λ e r. r ≡ bank_refusal e };
+
     // The number and the fields of the refusal.
-    pub fn refusal(&self) -> Refusal
-        ensures { result ≡ bank_refusal self.now }
-    {
-        match *self {
-            BankFault::Count => Refusal::at(15, 0),
-            BankFault::Width => Refusal::at(15, 0),
-            BankFault::Names => Refusal::at(15, 0),
+    fn from(fault: BankFault) -> Refusal {
+        match fault {
+            BankFault::Count | BankFault::Width | BankFault::Names => Refusal::at(15, 0),
         }
     }
 }

@@ -43,13 +43,15 @@ pub fn row_fits<B: Bank>(bank: &B, row: &Row) -> bool
     names_known(row, bank.names()) && widths_fit(bank, row)
 }
 
-// The first row of a block that does not fit.
+// The first row of a block that does not fit. Side and block are arguments since the fault names them; nothing else
+// here uses them.
 fn rows_fit<B: Bank>(bank: &B, rows: &[Row], side: Side, block: u8) -> Result<(), FitFault>
     requires { length rows.now ≤ 64 }
     ensures { result_err result ≡ unfit_row (B.Bank.kind.describe (B.Bank.meaning bank.now)) side block 0 rows.now }
 {
     for (i, row) in rows.iter().enumerate() {
         if !row_fits(bank, row) {
+            // at most 63, which is proved: `try_from` would add a fault that cannot come
             return Err(FitFault::AtRow(side, block, i as u8));
         }
     }
@@ -64,6 +66,7 @@ fn parameters_fit<B: Bank>(bank: &B, names: &[u8], side: Side) -> Result<(), Fit
     let n = bank.names();
     for (i, name) in names.iter().enumerate() {
         if *name >= n {
+            // at most 7, as above
             return Err(FitFault::AtParameter(side, i as u8));
         }
     }
@@ -75,6 +78,7 @@ fn parameters_fit<B: Bank>(bank: &B, names: &[u8], side: Side) -> Result<(), Fit
 pub fn form_fits<B: Bank>(bank: &B, form: &Form, side: Side) -> Result<(), FitFault>
     ensures { result_err result ≡ unfit (B.Bank.kind.describe (B.Bank.meaning bank.now)) side (code form.now) }
 {
+    // a form holds no list of its blocks: each is asked for by its number
     for block in 0..form.blocks() {
         rows_fit(bank, form.block(block), side, block)?;
     }

@@ -1,8 +1,10 @@
-// What the laws say of every bank, whatever its kind.
+// What the laws say of every bank, whatever its kind. Bodies that look alike make one change and look; each contract
+// states another law.
 ghost use Rattle.std.specs.Prelude.{◌≡◌, true, false};
 ghost use Rattle.banks.specs.Words.{lowest};
 
 use crate::bank::Bank;
+use crate::loss::Loss;
 
 // A put is seen: the name then holds the lowest bytes of the word, as many as it has. (A number that is no
 // name has none, and holds 0.)
@@ -32,22 +34,12 @@ pub fn touch_each_other<B: Bank>(bank: &B, a: u8, b: u8) -> bool
     bank.touches(a, b)
 }
 
-// A loss at a call leaves what a name holds that is kept over it.
-pub fn look_over_call<B: Bank>(bank: &mut B, w: u64, name: u8) -> u64
-    ensures result { result ≡ B.Bank.kind.look (B.Bank.kind.lose_at_call (B.Bank.meaning bank.old) w) name }
-    ensures kept { (B.Bank.kind.describe (B.Bank.meaning bank.old)).kept_over_call name ≡ true → result ≡ B.Bank.kind.look (B.Bank.meaning bank.old) name }
-    ensures bank { B.Bank.meaning bank.new ≡ B.Bank.kind.lose_at_call (B.Bank.meaning bank.old) w }
+// A loss leaves what a name holds that is kept over it.
+pub fn look_over<B: Bank>(bank: &mut B, loss: Loss, w: u64, name: u8) -> u64
+    ensures result { result ≡ B.Bank.kind.look (B.Bank.kind.lose (B.Bank.meaning bank.old) loss w) name }
+    ensures kept { (B.Bank.kind.describe (B.Bank.meaning bank.old)).kept_over loss name ≡ true → result ≡ B.Bank.kind.look (B.Bank.meaning bank.old) name }
+    ensures bank { B.Bank.meaning bank.new ≡ B.Bank.kind.lose (B.Bank.meaning bank.old) loss w }
 {
-    bank.lose_at_call(w);
-    bank.look(name)
-}
-
-// A loss at a pause leaves what a name holds that is kept over it.
-pub fn look_over_pause<B: Bank>(bank: &mut B, w: u64, name: u8) -> u64
-    ensures result { result ≡ B.Bank.kind.look (B.Bank.kind.lose_at_pause (B.Bank.meaning bank.old) w) name }
-    ensures kept { (B.Bank.kind.describe (B.Bank.meaning bank.old)).kept_over_pause name ≡ true → result ≡ B.Bank.kind.look (B.Bank.meaning bank.old) name }
-    ensures bank { B.Bank.meaning bank.new ≡ B.Bank.kind.lose_at_pause (B.Bank.meaning bank.old) w }
-{
-    bank.lose_at_pause(w);
+    bank.lose(loss, w);
     bank.look(name)
 }

@@ -9,6 +9,7 @@ mod fault;
 mod fits;
 mod frame;
 mod laws;
+mod loss;
 mod misfit;
 mod nested;
 mod outline;
@@ -22,9 +23,8 @@ pub use either::Either;
 pub use fault::BankFault;
 pub use fits::{form_fits, row_fits};
 pub use frame::{Frame, Unframed};
-pub use laws::{
-    look_after_put, look_beside_put, look_over_call, look_over_pause, touch_each_other,
-};
+pub use laws::{look_after_put, look_beside_put, look_over, touch_each_other};
+pub use loss::Loss;
 pub use misfit::{FitFault, Side};
 pub use nested::Nested;
 pub use outline::Outline;

@@ -24,30 +24,27 @@ pub enum FitFault {
 fn refusal_of(side: Side, place: u8, row: u8) -> Refusal
     ensures { result ≡ misfit side place row }
 {
+    let at = Refusal::at(7, place as usize);
     match side {
         Side::Before => Refusal {
-            number: 7,
             side: 1,
-            place: place as usize,
             before: row,
-            after: 0,
+            ..at
         },
         Side::After => Refusal {
-            number: 7,
             side: 2,
-            place: place as usize,
-            before: 0,
             after: row,
+            ..at
         },
     }
 }
 
-impl FitFault {
+impl From<FitFault> for Refusal {
+    ghost from_gives = { λ e r. r ≡ fit_refusal e };
+
     // The number and the fields of the refusal.
-    pub fn refusal(&self) -> Refusal
-        ensures { result ≡ fit_refusal self.now }
-    {
-        match *self {
+    fn from(fault: FitFault) -> Refusal {
+        match fault {
             FitFault::AtRow(side, block, row) => refusal_of(side, block, row),
             FitFault::AtParameter(side, parameter) => refusal_of(side, 64, parameter),
         }

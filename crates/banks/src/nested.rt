@@ -1,10 +1,11 @@
 // Nested: eight units of eight bytes, each with names for its lowest 1, 2, 4 and 8 bytes.
-ghost use Rattle.std.specs.Prelude.{◌≡◌, ◌≤◌, length};
-ghost use Rattle.banks.specs.Meanings.{by_place, units_of};
-ghost use Rattle.banks.specs.Nested.{nested, nested_width, unit_after, lost_units, nested_from};
+ghost use Rattle.std.specs.Prelude.{◌≡◌};
+ghost use Rattle.banks.specs.Meanings.{units_of};
+ghost use Rattle.banks.specs.Nested.{nested, nested_width, unit_after, units_lost, nested_from};
 ghost use Rattle.banks.specs.Nests.{nested_laws};
 
 use crate::bank::Bank;
+use crate::loss::Loss;
 use crate::words::low_bytes;
 
 // Names 0 to 31: name 4 × u + k is the lowest 2^k bytes of unit u.
@@ -20,25 +21,25 @@ fn width_of(a: u8) -> u8
     if a < 32 { 1 << (a % 4) } else { 0 }
 }
 
-// A unit after a put into its lowest bytes: four clear the upper four, one or two leave the rest.
+// A unit after a put into its lowest bytes: one or two leave the rest, four clear the upper four.
 fn unit_after(width: u8, old: u64, w: u64) -> u64
     ensures { result ≡ unit_after width old w }
 {
-    match width {
-        0 => old,
-        1 => old / 256 * 256 + w % 256,
-        2 => old / 65536 * 65536 + w % 65536,
-        _ => low_bytes(w, width),
+    if width <= 2 {
+        old - low_bytes(old, width) + low_bytes(w, width)
+    } else {
+        low_bytes(w, width)
     }
 }
 
-// The first n units are lost: each becomes the word.
-fn lose(units: &mut [u64], n: usize, w: u64)
-    requires { n ≤ length units.old }
-    ensures { by_place units.new ≡ lost_units n (by_place units.old) w }
+// How many units a loss takes, the first of them. That a call takes half, as of Paired's cells, is chance: each kind
+// has its own rule.
+fn units_lost(loss: Loss) -> u8
+    ensures { result ≡ units_lost loss }
 {
-    for u in 0..n {
-        units[u] = w;
+    match loss {
+        Loss::Call => 4,
+        Loss::Pause => 8,
     }
 }
 
@@ -70,12 +71,8 @@ impl Bank for Nested {
         a < 32 && b < 32 && a / 4 == b / 4
     }
 
-    fn kept_over_call(&self, a: u8) -> bool {
-        a < 32 && a / 4 >= 4
-    }
-
-    fn kept_over_pause(&self, _a: u8) -> bool {
-        false
+    fn kept_over(&self, loss: Loss, a: u8) -> bool {
+        a < 32 && a / 4 >= units_lost(loss)
     }
 
     fn look(&self, a: u8) -> u64 {
@@ -93,11 +90,7 @@ impl Bank for Nested {
         }
     }
 
-    fn lose_at_call(&mut self, w: u64) {
-        lose(&mut self.units, 4, w);
-    }
-
-    fn lose_at_pause(&mut self, w: u64) {
-        lose(&mut self.units, 8, w);
+    fn lose(&mut self, loss: Loss, w: u64) {
+        self.units[..units_lost(loss) as usize].fill(w);
     }
 }

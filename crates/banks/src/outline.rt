@@ -1,12 +1,16 @@
 // A bank's description as a table, made once, so that the check asks the bank nothing more.
-ghost use Rattle.std.specs.Prelude.{◌≡◌, ℕ, ◌<◌, ◌&&◌, ◌||◌, ◌==◌};
+ghost use Rattle.std.specs.Prelude.{◌≡◌, ℕ, ◌<◌, ◌≤◌, false};
 ghost use Rattle.banks.specs.Outlines.{outlined, Bits};
 ghost use Rattle.banks.specs.Words.{bit};
 
 use crate::bank::Bank;
+use crate::loss::Loss;
+use std::array;
 
 // How many names a bank has, and for each its width, the names that it touches (bit b of word a says
-// whether a touches b), and whether it is kept (bit a).
+// whether a touches b), and whether it is kept over each loss (bit a). The check takes a whole word at a time, by
+// a name for touching and by a loss for what is kept, and asks a width apart from both: hence two tables, and a
+// word for each loss.
 #[derive(Clone, Copy)]
 pub struct Outline {
     pub names: u8,
@@ -16,23 +20,26 @@ pub struct Outline {
     pub kept_over_pause: u64,
 }
 
-// A word with one more bit, where that is asked for.
-fn with_bit(word: u64, i: u8, set: bool) -> u64
-    requires { i < 64 }
-    ensures { (k : ℕ) → bit result k ≡ (bit word k || (set && k == i)) }
+// The word whose bit i is set exactly if the test holds of i, for the numbers below 64.
+fn mask<F: Fn(u8) -> bool>(holds: F) -> u64
+    requires { F.IsAlwaysCallable holds }
+    ensures told { (i : ℕ) → i < 64 → F.post holds i (bit result i) }
+    ensures others { (i : ℕ) → 64 ≤ i → bit result i ≡ false }
 {
-    if set { word | (1 << i) } else { word }
+    let mut word = 0;
+    for i in 0..64 {
+        if holds(i) {
+            word |= 1 << i;
+        }
+    }
+    word
 }
 
 // The names that a name touches.
 fn touched_by<B: Bank>(bank: &B, a: u8) -> u64
     ensures { Bits result ((B.Bank.kind.describe (B.Bank.meaning bank.now)).touches a) }
 {
-    let mut word = 0;
-    for b in 0..64 {
-        word = with_bit(word, b, bank.touches(a, b));
-    }
-    word
+    mask(|b| bank.touches(a, b))
 }
 
 impl Outline {
@@ -40,22 +47,13 @@ impl Outline {
     pub fn of<B: Bank>(bank: &B) -> Outline
         ensures { outlined result ≡ B.Bank.kind.describe (B.Bank.meaning bank.now) }
     {
-        let mut widths = [0; 64];
-        let mut touched = [0; 64];
-        let mut over_call = 0;
-        let mut over_pause = 0;
-        for a in 0..64 {
-            widths[a as usize] = bank.width(a);
-            touched[a as usize] = touched_by(bank, a);
-            over_call = with_bit(over_call, a, bank.kept_over_call(a));
-            over_pause = with_bit(over_pause, a, bank.kept_over_pause(a));
-        }
         Outline {
             names: bank.names(),
-            widths,
-            touched,
-            kept_over_call: over_call,
-            kept_over_pause: over_pause,
+            // below 64, which is proved: `try_from` would add a case that cannot come
+            widths: array::from_fn(|a| bank.width(a as u8)),
+            touched: array::from_fn(|a| touched_by(bank, a as u8)),
+            kept_over_call: mask(|a| bank.kept_over(Loss::Call, a)),
+            kept_over_pause: mask(|a| bank.kept_over(Loss::Pause, a)),
         }
     }
 }

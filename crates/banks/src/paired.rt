@@ -1,11 +1,11 @@
 // Paired: sixteen cells of one byte, with names for cells, pairs, fours and halves.
-ghost use Rattle.std.specs.Prelude.{◌≡◌, ◌+◌, ◌<◌, ◌≤◌, length};
+ghost use Rattle.std.specs.Prelude.{◌≡◌, ◌≤◌, length};
 ghost use Rattle.banks.specs.Meanings.{by_place, bytes_of};
-ghost use Rattle.banks.specs.Paired.{paired, first_cell, cells_of, number_in, written_in, lost_cells, paired_from, TouchByCells};
-ghost use Rattle.banks.specs.Words.{byte_of};
+ghost use Rattle.banks.specs.Paired.{paired, first_cell, cells_of, number_in, cells_lost, paired_from, TouchByCells};
 ghost use Rattle.banks.specs.Pairs.{paired_laws};
 
 use crate::bank::Bank;
+use crate::loss::Loss;
 
 // Names 0 to 15 are the cells, 16 to 23 the pairs, 24 to 27 the fours, 28 and 29 the halves.
 #[derive(Clone, Copy)]
@@ -39,43 +39,24 @@ fn first_cell(a: u8) -> u8
     }
 }
 
-// Byte i of a word.
-fn byte_of(w: u64, i: usize) -> u8
-    requires { i < 8 }
-    ensures { result ≡ byte_of w i }
+// The number that cells hold.
+fn number_in(cells: &[u8]) -> u64
+    requires { length cells.now ≤ 8 }
+    ensures { result ≡ number_in (by_place cells.now) 0 (length cells.now) }
 {
-    ((w >> (8 * i)) % 256) as u8
+    let mut bytes = [0; 8];
+    bytes[..cells.len()].copy_from_slice(cells);
+    u64::from_le_bytes(bytes)
 }
 
-// The number that some cells hold.
-fn number_in(cells: &[u8], first: usize, n: usize) -> u64
-    requires { (n ≤ 8) × ((first + n ≤ length cells.now) × (length cells.now ≡ 16)) }
-    ensures { result ≡ number_in (by_place cells.now) first n }
+// How many cells a loss takes, the first of them. That a call takes half, as of Nested's units, is chance: each kind
+// has its own rule.
+fn cells_lost(loss: Loss) -> u8
+    ensures { result ≡ cells_lost loss }
 {
-    let mut number: u64 = 0;
-    for i in (0..n).rev() {
-        number = number * 256 + u64::from(cells[first + i]);
-    }
-    number
-}
-
-// Writes the lowest bytes of a word into some cells.
-fn write_in(cells: &mut [u8], first: usize, n: usize, w: u64)
-    requires { (n ≤ 8) × ((first + n ≤ length cells.old) × (length cells.old ≡ 16)) }
-    ensures { by_place cells.new ≡ written_in (by_place cells.old) first n w }
-{
-    for i in 0..n {
-        cells[first + i] = byte_of(w, i);
-    }
-}
-
-// The first n cells are lost: each becomes a byte of the word.
-fn lose(cells: &mut [u8], n: usize, w: u64)
-    requires { n ≤ length cells.old }
-    ensures { by_place cells.new ≡ lost_cells n (by_place cells.old) w }
-{
-    for c in 0..n {
-        cells[c] = byte_of(w, c % 8);
+    match loss {
+        Loss::Call => 8,
+        Loss::Pause => 16,
     }
 }
 
@@ -90,7 +71,7 @@ impl Paired {
         ensures { bytes_of result ≡ paired_from w }
     {
         let mut bank = Paired { cells: [0; 16] };
-        bank.lose_at_pause(w);
+        bank.lose(Loss::Pause, w);
         bank
     }
 }
@@ -114,32 +95,29 @@ impl Bank for Paired {
         first_cell(a) < first_cell(b) + cells_of(b) && first_cell(b) < first_cell(a) + cells_of(a)
     }
 
-    fn kept_over_call(&self, a: u8) -> bool {
-        a < 30 && first_cell(a) >= 8
-    }
-
-    fn kept_over_pause(&self, _a: u8) -> bool {
-        false
+    fn kept_over(&self, loss: Loss, a: u8) -> bool {
+        a < 30 && first_cell(a) >= cells_lost(loss)
     }
 
     fn look(&self, a: u8) -> u64 {
-        number_in(&self.cells, first_cell(a) as usize, cells_of(a) as usize)
+        let first = first_cell(a) as usize;
+        number_in(&self.cells[first..first + cells_of(a) as usize])
     }
 
     fn put(&mut self, a: u8, w: u64) {
-        write_in(
-            &mut self.cells,
-            first_cell(a) as usize,
-            cells_of(a) as usize,
-            w,
-        );
+        let first = first_cell(a) as usize;
+        let n = cells_of(a) as usize;
+        self.cells[first..first + n].copy_from_slice(&w.to_le_bytes()[..n]);
     }
 
-    fn lose_at_call(&mut self, w: u64) {
-        lose(&mut self.cells, 8, w);
-    }
-
-    fn lose_at_pause(&mut self, w: u64) {
-        lose(&mut self.cells, 16, w);
+    fn lose(&mut self, loss: Loss, w: u64) {
+        // each half that is lost takes the bytes of the word; one by one, since a proof does not learn
+        // what is written through `chunks_exact_mut`
+        let bytes = w.to_le_bytes();
+        self.cells[..8].copy_from_slice(&bytes);
+        match loss {
+            Loss::Call => {}
+            Loss::Pause => self.cells[8..].copy_from_slice(&bytes),
+        }
     }
 }

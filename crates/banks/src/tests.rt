@@ -22,8 +22,8 @@ fn a_frame_over_a_frame_is_a_bank(rt: HostRuntime) -> Result<(), Fail> {
     assert!(rt; outer.names() == 33);
     outer.put(30, 0x1_0000_0005);
     outer.put(32, 0x1ff);
-    outer.lose_at_call(0);
-    outer.lose_at_pause(0x1122334455667788);
+    outer.lose(Loss::Call, 0);
+    outer.lose(Loss::Pause, 0x1122334455667788);
     assert_eq!(rt; outer.look(30), 5);
     assert_eq!(rt; outer.look(32), 0xff);
     assert_eq!(rt; outer.look(29), 0x1122334455667788);
@@ -35,16 +35,7 @@ fn a_refused_frame_hands_the_bank_back(rt: HostRuntime) -> Result<(), Fail> {
     match Frame::new(Nested::new(7), &[1; 33]) {
         Ok(_) => Err(Fail::new("33 slots")),
         Err(Unframed { bank, fault }) => {
-            assert_eq!(rt;
-                fault.refusal(),
-                Refusal {
-                    number: 15,
-                    side: 0,
-                    place: 0,
-                    before: 0,
-                    after: 0
-                }
-            );
+            assert_eq!(rt; Refusal::from(fault), Refusal::at(15, 0));
             assert_eq!(rt; bank.look(31), 7);
             Ok(())
         }
@@ -86,13 +77,11 @@ fn a_parameter_that_is_no_name_does_not_fit(rt: HostRuntime) -> Result<(), Fail>
         Ok(()) => Err(Fail::new("it fits")),
         Err(fault) => {
             assert_eq!(rt;
-                fault.refusal(),
+                Refusal::from(fault),
                 Refusal {
-                    number: 7,
                     side: 2,
-                    place: 64,
-                    before: 0,
-                    after: 1
+                    after: 1,
+                    ..Refusal::at(7, 64)
                 }
             );
             Ok(())

@@ -9,6 +9,7 @@ ghost use Rattle.banks.specs.Tables.{variables_laws};
 use crate::bank::Bank;
 use crate::cells::Cells;
 use crate::fault::BankFault;
+use crate::loss::Loss;
 
 // 1 to 64 variables.
 #[derive(Clone, Copy)]
@@ -27,6 +28,7 @@ impl Variables {
     }
 }
 
+// Each method hands its question to the table, which is not itself a bank.
 impl Bank for Variables {
     ghost kind = { variables };
 
@@ -46,11 +48,7 @@ impl Bank for Variables {
         a == b && a < self.cells.len()
     }
 
-    fn kept_over_call(&self, a: u8) -> bool {
-        a < self.cells.len()
-    }
-
-    fn kept_over_pause(&self, a: u8) -> bool {
+    fn kept_over(&self, _loss: Loss, a: u8) -> bool {
         a < self.cells.len()
     }
 
@@ -62,7 +60,5 @@ impl Bank for Variables {
         self.cells.put(a, w);
     }
 
-    fn lose_at_call(&mut self, _w: u64) {}
-
-    fn lose_at_pause(&mut self, _w: u64) {}
+    fn lose(&mut self, _loss: Loss, _w: u64) {}
 }

@@ -20,7 +20,7 @@ use Rattle.choices.specs.declared.any_bank.AnyBank.{AnyBank}
 use Rattle.choices.specs.declared.any_bank.FramedFault.{FramedFault}
 use Rattle.choices.specs.declared.any_bank.FramedFault.TheVariants.{Layers, Slots}
 use Rattle.choices.specs.declared.changes.Change.{Change}
-use Rattle.choices.specs.declared.changes.Change.TheVariants.{Put, CallLoss, PauseLoss}
+use Rattle.choices.specs.declared.changes.Change.TheVariants.{Put, Lose}
 
 -- A bank that is no frame: variables, nested or paired.
 abbrev pub PlainBank : Type 0
@@ -77,5 +77,4 @@ NewFrame (inr (inr m)) widths b = ⊥
 -- What a bank means after a change.
 abbrev pub changed : (k : Kind) → Change → k.Meaning → k.Meaning
 changed k (Put a w) m = k.put m a w
-changed k (CallLoss w) m = k.lose_at_call m w
-changed k (PauseLoss w) m = k.lose_at_pause m w
+changed k (Lose l w) m = k.lose m l w

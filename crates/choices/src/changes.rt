@@ -2,14 +2,14 @@
 ghost use Rattle.std.specs.Prelude.{◌≡◌};
 ghost use Rattle.choices.specs.Banks.{changed};
 
-use banks::Bank;
+use banks::{Bank, Loss};
 
-// A change of a bank: a word is put under a name, or a word comes with the loss at a call or at a pause.
+// A change of a bank: a word is put under a name, or a word comes with a loss. An enum and no closure: a
+// caller who keeps changes has values of one type.
 #[derive(Clone, Copy)]
 pub enum Change {
     Put(u8, u64),
-    CallLoss(u64),
-    PauseLoss(u64),
+    Lose(Loss, u64),
 }
 
 impl Change {
@@ -19,8 +19,7 @@ impl Change {
     {
         match self {
             Change::Put(a, w) => bank.put(a, w),
-            Change::CallLoss(w) => bank.lose_at_call(w),
-            Change::PauseLoss(w) => bank.lose_at_pause(w),
+            Change::Lose(loss, w) => bank.lose(loss, w),
         }
     }
 }

@@ -1,5 +1,5 @@
 use super::*;
-use banks::Bank;
+use banks::{Bank, Loss};
 use std::test::Fail;
 
 #[test]
@@ -11,7 +11,7 @@ fn two_layers_of_frames_and_no_third(rt: HostRuntime) -> Result<(), Fail> {
         return Err(Fail::new("no second layer"));
     };
     Change::Put(33, 0x12345).apply(&mut outer);
-    Change::PauseLoss(9).apply(&mut outer);
+    Change::Lose(Loss::Pause, 9).apply(&mut outer);
     assert_eq!(rt; outer.look(33), 0x2345);
     assert_eq!(rt; outer.look(31), 9);
     match outer.framed(&[1]) {

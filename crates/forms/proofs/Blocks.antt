@@ -1,97 +1,143 @@
 -- One block more.
-use Rattle.std.proofs.Common.{◌≡◌, ℕ, ◌+◌, ◌-◌, ◌<◌, ◌≤◌, cond, List, ◌++◌, length, set, replicate, Ok, Err, Result, sym, refl, ap, ◌∙◌, arith, length-set}
+use Rattle.std.proofs.Common.{◌≡◌, ℕ, ◌+◌, ◌-◌, ◌<◌, ◌≤◌, true, List, [], ◌++◌, length, drop, set, replicate, Ok, Err, Result, sym, refl, ap, ◌∙◌, arith, length-set, length-drop}
+use Rattle.std.proofs.lemmas.List.{append-nil, drop_all, set-append_left}
 use Rattle.std.proofs.lemmas.Bool.Decides.{nat_tests}
-use Rattle.numbers.specs.Reading.{number}
-use Rattle.numbers.specs.declared.fault.NumberFault.{NumberFault}
+use borrow.Rule.Slice.PartMut.{put_mid}
 use Rattle.numbers.specs.declared.read.Parsed.{Parsed}
 use Rattle.forms.specs.declared.fault.FormFault.{FormFault}
-use Rattle.forms.specs.declared.fault.FormFault.TheVariants.{Count}
+use Rattle.forms.specs.declared.read.Reader.{Reader}
 use Rattle.forms.specs.declared.row.Row.{Row}
 use Rattle.forms.specs.Buffers.{over, onto, lengths}
-use Rattle.forms.specs.Reading.{Reading, and_then, before, go_on, lifted, row_count_at, rows_at, block_then, blocks_at}
+use Rattle.forms.specs.Cursor.{Reads, placed_at, reached}
+use Rattle.forms.specs.Reading.{Reading, before, go_on, row_count_at, rows_at, block_then, blocks_at}
 use Rattle.forms.specs.Rules.{count_ok}
-use Rattle.forms.proofs.Buffers.{fuel, onto_before, over_append, length_over}
-use Rattle.forms.proofs.Wells.{rows_good}
+use Rattle.forms.proofs.Buffers.{fuel, onto_before, over_append, over_behind, length_over}
+use Rattle.forms.proofs.Sound.{row_count_good}
+use Rattle.forms.proofs.Wells.{rows_good, rows_moved}
+
+-- the counts that are used, with the zeros behind them
+abbrev pub counts_of : ℕ → List ℕ → List ℕ
+counts_of blocks used = used ++ drop blocks (replicate 64 0)
 
 -- what a reading of blocks leaves: their row counts and the place after them, and the buffer
 abbrev pub leaves : ℕ → List ℕ → ℕ → Reading (Parsed (List (List Row))) → List Row → Result (Parsed (List ℕ)) FormFault × List Row
 leaves b counts place s rows = (onto b counts (lengths s.outcome), over place s.stored rows)
 
--- b blocks are read, with `place` rows: what is left to read leaves what the whole leaves
-pub record Blocked (blocks last room : ℕ) (bytes : List ℕ) (at : ℕ) (first : List Row) (b next place : ℕ) (counts : List ℕ) (rows : List Row) : Type 0 where
-  pub sized : length counts ≡ 64
-  pub roomy : length rows ≡ room
-  pub few : place ≤ 512
-  pub taken : place ≤ room
-  pub rest : leaves b counts place (blocks_at (blocks - b) last room bytes next place) rows ≡ leaves 0 (replicate 64 0) 0 (blocks_at blocks last room bytes at 0) first
+module _ (blocks last : ℕ) (first : Reader) (lent : List Row) where
+  -- what the whole leaves
+  abbrev pub whole : Result (Parsed (List ℕ)) FormFault × List Row
+  whole = leaves 0 (replicate 64 0) 0 (blocks_at blocks last (length lent) first.bytes.now first.at 0) lent
 
-pub none : {blocks last : ℕ} {bytes : List ℕ} {at : ℕ} {first : List Row} → Blocked blocks last (length first) bytes at first 0 at 0 (replicate 64 0) first
-none {blocks} {last} {bytes} {at} {first} =
-    let z : blocks - 0 ≡ blocks = omega arith in
-    record { sized = refl; roomy = refl; few = omega arith; taken = omega arith; rest = rw z refl }
+  -- a call left that: it answered, moved the reader and stored as the whole says
+  pub record Gave (new : Reader) (said : Result (List ℕ) FormFault) (kept : List Row) : Type 0 where
+    pub result : Reads (λ bytes at. onto 0 (replicate 64 0) (lengths (blocks_at blocks last (length lent) bytes at 0).outcome)) first new said
+    pub rows : kept ≡ over 0 (blocks_at blocks last (length lent) first.bytes.now first.at 0).stored lent
 
--- a count that is accepted is within its limits
-count_few : (r : Result (Parsed ℕ) NumberFault) (used at : ℕ) (p : Parsed ℕ)
-    → Ok p ≡ and_then (lifted r) (λ p. cond (count_ok used p.value) (Ok p) (Err (Count at))) → used + p.value ≤ 512
-count_few (Ok q) used at p e = grind (arith, nat_tests)
-count_few (Err x) used at p e = absurd (grind arith)
+  -- b blocks are read, with `place` rows: what is left to read leaves what the whole leaves
+  pub record Blocked (r : Reader) (b place : ℕ) (used : List ℕ) (rows : List Row) : Type 0 where
+    pub same : r.bytes ≡ first.bytes
+    pub sized : length used ≡ blocks
+    pub roomy : length rows ≡ length lent
+    pub few : place ≤ 512
+    pub taken : place ≤ length rows
+    pub rest : leaves b (counts_of blocks used) place (blocks_at (blocks - b) last (length lent) first.bytes.now r.at place) rows ≡ whole
 
-pub row_count_few : (bytes : List ℕ) (used at : ℕ) (p : Parsed ℕ) → Ok p ≡ row_count_at used bytes at → used + p.value ≤ 512
-row_count_few bytes used at p e = count_few (number bytes at) used at p e
+-- the rows that are counted so far are few
+row_count_few : (used count : ℕ) → count_ok used count ≡ true → used + count ≤ 512
+row_count_few used count h = grind (arith, nat_tests)
 
 -- the lengths of lists come before each other as the lists do
 lengths_before : (rows : List Row) (r : Result (Parsed (List (List Row))) FormFault) → lengths (before rows r) ≡ before (length rows) (lengths r)
 lengths_before rows (Ok p) = refl
 lengths_before rows (Err e) = refl
 
-module _ {blocks last room : ℕ} {bytes : List ℕ} {at : ℕ} {first : List Row} {b next place : ℕ} {counts : List ℕ} {rows : List Row}
-    (s : Blocked blocks last room bytes at first b next place counts rows) (h : b < blocks) where
-  -- what the whole leaves
-  abbrev pub whole : Result (Parsed (List ℕ)) FormFault × List Row
-  whole = leaves 0 (replicate 64 0) 0 (blocks_at blocks last room bytes at 0) first
+-- where a reading ended, from what is told of it
+reached_ok : (r : Result ℕ FormFault) (next : ℕ) → placed_at next (Ok tt) ≡ reached r → r ≡ Ok next
+reached_ok (Ok to) next e = grind arith
+reached_ok (Err f) next e = absurd (grind arith)
+
+reached_err : (r : Result ℕ FormFault) (next : ℕ) (e : FormFault) → placed_at next (Err e) ≡ reached r → r ≡ Err e
+reached_err (Ok to) next e h = absurd (grind arith)
+reached_err (Err f) next e h = grind arith
+
+module _ {blocks last : ℕ} {first : Reader} {lent : List Row} {r : Reader} {b place : ℕ} {used : List ℕ} {rows : List Row}
+    (s : Blocked blocks last first lent r b place used rows) where
+  gave : (new : Reader) (said : Result (List ℕ) FormFault) (kept : List Row) → new.bytes ≡ first.bytes
+      → whole blocks last first lent ≡ (placed_at new.at said, kept) → Gave blocks last first lent new said kept
+  gave new said kept e w = record {
+    result = (e, sym (ap (λ (x : Result (Parsed (List ℕ)) FormFault × List Row). x.0) w));
+    rows = sym (ap (λ (x : Result (Parsed (List ℕ)) FormFault × List Row). x.1) w);
+  }
 
   -- the rows of this block, and the blocks after it
-  abbrev pub block : Parsed ℕ → Reading ℕ
-  block count = rows_at count.value last room bytes count.next place
+  abbrev block : Parsed ℕ → Reading ℕ
+  block count = rows_at count.value last (length lent) first.bytes.now count.next place
 
   then : Parsed ℕ → Reading (Parsed (List (List Row)))
-  then count = block_then (block count).stored (block count).outcome (λ to. blocks_at (blocks - (b + 1)) last room bytes to (place + count.value))
+  then count = block_then (block count).stored (block count).outcome (λ to. blocks_at (blocks - (b + 1)) last (length lent) first.bytes.now to (place + count.value))
 
-  step : whole ≡ leaves b counts place (go_on (row_count_at place bytes next) then) rows
+  step : b < blocks → whole blocks last first lent ≡ leaves b (counts_of blocks used) place (go_on (row_count_at place first.bytes.now r.at) then) rows
   unfolding then
-  step = sym s.rest ∙ rw (fuel blocks b h) refl
+  step h = sym s.rest ∙ rw (fuel blocks b h) refl
 
-  pub count_refused : (e : FormFault) → Err e ≡ row_count_at place bytes next → whole ≡ (Err e, rows)
-  count_refused e r = step ∙ rw (sym r) refl
+  pub count_refused : b < blocks → (mid : Reader) (e : FormFault) → Reads (row_count_at place) r mid (Err e) → Gave blocks last first lent mid (Err e) rows
+  count_refused h mid e q = gave mid (Err e) rows (q.0 ∙ s.same) (step h ∙ rw (sym (rw s.same at q.1)) refl)
 
-  counted : (count : Parsed ℕ) → Ok count ≡ row_count_at place bytes next → whole ≡ leaves b counts place (then count) rows
-  counted count r = step ∙ rw (sym r) refl
+  -- the count was read, and then rows into the places that are free
+  module _ (h : b < blocks) (mid : Reader) (count : ℕ) (q : Reads (row_count_at place) r mid (Ok count)) (new : Reader) (free kept : List Row)
+      (f : free ≡ drop place rows) (w : kept ≡ over 0 (rows_at count last (length free) mid.bytes.now mid.at 0).stored free) where
+    abbrev here : Parsed ℕ
+    here = record { value = count; next = mid.at }
 
-  pub rows_refused : (count : Parsed ℕ) → Ok count ≡ row_count_at place bytes next → (e : FormFault) → Err e ≡ (block count).outcome
-      → whole ≡ (Err e, over place (block count).stored rows)
-  unfolding then
-  rows_refused count r e q = counted count r ∙ rw (sym q) refl
+    counted : Ok here ≡ row_count_at place first.bytes.now r.at
+    counted = rw s.same at q.1
 
-  pub again : (count : Parsed ℕ) → Ok count ≡ row_count_at place bytes next → (to : ℕ) → Ok to ≡ (block count).outcome
-      → (rows' : List Row) → rows' ≡ over place (block count).stored rows
-      → Blocked blocks last room bytes at first (b + 1) to (place + count.value) (set counts b count.value) rows'
-  unfolding then
-  again count r to q rows' w =
-      let g = rows_good count.value last room bytes count.next place s.taken to (sym q) in
-      let go : ℕ → Reading (Parsed (List (List Row))) = λ (to : ℕ). blocks_at (blocks - (b + 1)) last room bytes to (place + count.value) in
-      let m : whole ≡ (onto b counts (lengths (before (block count).stored (go to).outcome)), over place ((block count).stored ++ (go to).stored) rows)
-      = counted count r ∙ rw (sym q) refl in
-      record {
-        sized = length-set counts b count.value ∙ s.sized;
-        roomy = ap length w ∙ length_over place (block count).stored rows ∙ s.roomy;
-        few = row_count_few bytes place next count r;
-        taken = g.fits;
-        rest = sym (m
-            ∙ rw (lengths_before (block count).stored (go to).outcome, onto_before b counts (length (block count).stored) (lengths (go to).outcome), over_append place (block count).stored (go to).stored rows, g.long, sym w) refl);
-      }
+    moved : rows_at count last (length free) mid.bytes.now mid.at 0 ≡ block here
+    moved =
+        let l : place + length free ≡ length lent = omega (arith, ap length f, length-drop place rows, s.roomy, s.taken) in
+        let z : place + 0 ≡ place = omega arith in
+        sym (rows_moved count last (length free) mid.bytes.now mid.at 0 place) ∙ rw (l, z, q.0, s.same) refl
 
-pub all : {blocks last room : ℕ} {bytes : List ℕ} {at : ℕ} {first : List Row} {b next place : ℕ} {counts : List ℕ} {rows : List Row}
-    → Blocked blocks last room bytes at first b next place counts rows → blocks ≤ b
-    → leaves 0 (replicate 64 0) 0 (blocks_at blocks last room bytes at 0) first ≡ (Ok (record { value = counts; next = next }), rows)
-all {blocks} {last} {room} {bytes} {at} {first} {b} {next} {place} {counts} {rows} s h =
-    let z : blocks - b ≡ 0 = omega arith in sym (rw z at s.rest)
+    got : whole blocks last first lent ≡ leaves b (counts_of blocks used) place (then here) rows
+    got = step h ∙ rw (sym counted) refl
+
+    -- the buffer with the places written
+    stored : put_mid place (length rows - place) rows kept ≡ over place (block here).stored rows
+    stored =
+        let e : drop (length rows - place) (drop place rows) ≡ [] = drop_all (length rows - place) (drop place rows) (omega (arith, length-drop place rows)) in
+        rw (e, append-nil kept, w, moved, f) (sym (over_behind place (block here).stored rows))
+
+    pub rows_refused : (e : FormFault) → Reads (λ bytes at. reached (rows_at count last (length free) bytes at 0).outcome) mid new (Err e)
+        → Gave blocks last first lent new (Err e) (put_mid place (length rows - place) rows kept)
+    unfolding then
+    rows_refused e t =
+        let o : (block here).outcome ≡ Err e = sym (ap (λ (x : Reading ℕ). x.outcome) moved) ∙ reached_err (rows_at count last (length free) mid.bytes.now mid.at 0).outcome new.at e t.1 in
+        gave new (Err e) _ (t.0 ∙ q.0 ∙ s.same) (got ∙ rw (o, stored) refl)
+
+    pub again : Reads (λ bytes at. reached (rows_at count last (length free) bytes at 0).outcome) mid new (Ok tt)
+        → Blocked blocks last first lent new (b + 1) (place + count) (set used b count) (put_mid place (length rows - place) rows kept)
+    unfolding then
+    again t =
+        let o : (block here).outcome ≡ Ok new.at = sym (ap (λ (x : Reading ℕ). x.outcome) moved) ∙ reached_ok (rows_at count last (length free) mid.bytes.now mid.at 0).outcome new.at t.1 in
+        let g = rows_good count last (length lent) first.bytes.now mid.at place (omega (arith, s.taken, s.roomy)) new.at o in
+        let u : b < length used = omega (arith, s.sized) in
+        let n : length (put_mid place (length rows - place) rows kept) ≡ length lent = ap length stored ∙ length_over place (block here).stored rows ∙ s.roomy in
+        let go : ℕ → Reading (Parsed (List (List Row))) = λ (to : ℕ). blocks_at (blocks - (b + 1)) last (length lent) first.bytes.now to (place + count) in
+        let m : whole blocks last first lent ≡ (onto b (counts_of blocks used) (lengths (before (block here).stored (go new.at).outcome)), over place ((block here).stored ++ (go new.at).stored) rows)
+        = got ∙ rw o refl in
+        record {
+          same = t.0 ∙ q.0 ∙ s.same;
+          sized = length-set used b count ∙ s.sized;
+          roomy = n;
+          few = row_count_few place count (row_count_good place r.bytes.now r.at (record { value = count; next = mid.at }) (sym q.1));
+          taken = omega (arith, g.fits, n);
+          rest = sym (m
+              ∙ rw (
+                lengths_before (block here).stored (go new.at).outcome,
+                onto_before b (counts_of blocks used) (length (block here).stored) (lengths (go new.at).outcome),
+                over_append place (block here).stored (go new.at).stored rows,
+                g.long,
+                sym stored,
+                set-append_left used (drop blocks (replicate 64 0)) b count u,
+              ) refl);
+        }

@@ -1,6 +1,6 @@
 -- What is written into a buffer, one item and one part at a time.
 use Rattle.std.proofs.Common.{◌≡◌, ℕ, suc, ◌+◌, ◌-◌, ◌<◌, ◌≤◌, List, [], ◌∷◌, ◌++◌, length, take, drop, set, Ok, Err, Result, sym, refl, ◌∙◌, arith, length-set}
-use Rattle.std.proofs.lemmas.List.{append_assoc, take_more_set, drop-set-lt, take-append-drop}
+use Rattle.std.proofs.lemmas.List.{append_assoc, take_more_set, take-set-le, drop-set-lt, drop-set-add, take-append-drop}
 use Rattle.numbers.specs.declared.read.Parsed.{Parsed}
 use Rattle.forms.specs.declared.fault.FormFault.{FormFault}
 use Rattle.forms.specs.Buffers.{over, onto}
@@ -43,3 +43,14 @@ module _ {X : Type 0} where
   over_start xs buffer h =
       let z : 0 + length xs ≡ length xs = omega arith in
       rw z at (over_is 0 xs buffer (omega arith))
+
+  -- what stands before the place stays
+  over_after : (place k : ℕ) (xs buffer : List X) → over (k + place) xs buffer ≡ take k buffer ++ over place xs (drop k buffer)
+  over_after place k [] buffer = sym (take-append-drop k buffer)
+  over_after place k (x ∷ xs) buffer =
+      let z : (k + place) + 1 ≡ k + (place + 1) = omega arith in
+      rw z (over_after (place + 1) k xs (set buffer (k + place) x)
+      ∙ rw (take-set-le k buffer (k + place) x (omega arith), drop-set-add k buffer place x) refl)
+
+  pub over_behind : (place : ℕ) (xs buffer : List X) → over place xs buffer ≡ take place buffer ++ over 0 xs (drop place buffer)
+  over_behind place xs buffer = let z : place + 0 ≡ place = omega arith in rw z at (over_after 0 place xs buffer)

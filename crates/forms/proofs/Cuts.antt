@@ -1,7 +1,7 @@
 -- What the blocks of a form are.
-use Rattle.std.proofs.Common.{◌≡◌, ℕ, zero, suc, ◌+◌, ◌-◌, ◌<◌, ◌≤◌, true, ◌&&◌, leb, List, [], ◌∷◌, length, get_or, take, drop, sum, sym, refl, ap, ◌∙◌, arith, length-drop}
+use Rattle.std.proofs.Common.{◌≡◌, ℕ, zero, suc, ◌-◌, ◌<◌, ◌≤◌, true, ◌&&◌, leb, List, [], ◌∷◌, length, get_or, take, drop, sum, sym, refl, ap, ◌∙◌, arith, length-drop}
 use Rattle.std.proofs.lemmas.List.{drop-drop, get_or_past, get_or-take, take-take, length-take-le}
-use Rattle.std.proofs.lemmas.List.Sums.{sum_by-cons, sum_by_more, sum_by-take-le}
+use Rattle.std.proofs.lemmas.List.Sums.{sum_by-cons, sum_by-take-le}
 use Rattle.std.proofs.lemmas.Bool.{and_parts, leb-true}
 use Rattle.std.proofs.lemmas.Bool.Decides.{nat_tests}
 use Rattle.forms.specs.declared.row.Head.{Head}
@@ -22,11 +22,7 @@ cut_at (count ∷ counts) rows (suc b) h =
     cut_at counts (drop count rows) b (omega arith)
     ∙ ap (take (get_or counts b 0)) (drop-drop (sum (take b counts)) count rows ∙ ap (λ (n : ℕ). drop n rows) (sym (sum_by-cons (λ x. x) count (take b counts))))
 
--- the rows that are counted are there
-pub cut_there : (counts : List ℕ) (n b : ℕ) → sum counts ≤ n → b < length counts → sum (take b counts) + get_or counts b 0 ≤ n
-cut_there counts n b h l = omega (arith, sum_by_more (λ x. x) counts b 0 l, sum_by-take-le (λ x. x) counts (b + 1))
-
--- and they are all
+-- the rows that are counted are all
 pub cut_total : (counts : List ℕ) (rows : List Row) → sum counts ≤ length rows → rows_of (cut counts rows) ≡ sum counts
 cut_total [] rows h = refl
 cut_total (count ∷ counts) rows h =
@@ -63,6 +59,12 @@ module _ (rows : List Row) (head : Head) (sound : form_ok rows head ≡ true) wh
       let r = (and_parts (head_ok head) (rows_ok (head.blocks - 1) (take head.blocks head.counts) rows) sound).1 in
       leb-true _ (length rows) (and_parts (leb (sum (take head.blocks head.counts)) (length rows)) _ r).0
 
+  -- the rows before a block are
+  pub before_there : (b : ℕ) → b ≤ head.blocks → sum (take b head.counts) ≤ length rows
+  before_there b h =
+      let e : take b (take head.blocks head.counts) ≡ take b head.counts = take-take b head.blocks head.counts h in
+      omega (arith, there, rw e at (sum_by-take-le (λ x. x) (take head.blocks head.counts) b))
+
   counted : length (take head.blocks head.counts) ≡ head.blocks
   counted = length-take-le head.blocks head.counts counts_there
 
@@ -75,9 +77,6 @@ module _ (rows : List Row) (head : Head) (sound : form_ok rows head ≡ true) wh
 
     own : get_or (take head.blocks head.counts) b 0 ≡ get_or head.counts b 0
     own = get_or-take head.blocks head.counts b 0 h
-
-    pub block_there : sum (take b head.counts) + get_or head.counts b 0 ≤ length rows
-    block_there = simp (before, own) at (cut_there (take head.blocks head.counts) (length rows) b there (omega (arith, counted)))
 
     pub block_is : take (get_or head.counts b 0) (drop (sum (take b head.counts)) rows) ≡ get_or (code_of rows head).blocks b []
     block_is = sym (simp (before, own) at (cut_at (take head.blocks head.counts) rows b (omega (arith, counted))))

@@ -1,32 +1,37 @@
 -- One parameter's name more.
-use Rattle.std.proofs.Common.{◌≡◌, ℕ, ◌+◌, ◌-◌, ◌<◌, ◌≤◌, List, length, set, replicate, Some, Ok, Err, sym, refl, ◌∙◌, arith, length-set}
-use Rattle.numbers.specs.declared.read.Parsed.{Parsed}
+use Rattle.std.proofs.Common.{◌≡◌, ℕ, ◌+◌, ◌-◌, ◌<◌, List, ◌++◌, length, drop, set, replicate, Some, Ok, Err, sym, refl, ◌∙◌, arith, length-set}
+use Rattle.std.proofs.lemmas.List.{set-append_left}
 use Rattle.forms.specs.declared.fault.FormFault.{FormFault}
+use Rattle.forms.specs.declared.read.Reader.{Reader}
 use Rattle.forms.specs.Buffers.{onto}
+use Rattle.forms.specs.Cursor.{Reads}
 use Rattle.forms.specs.Reading.{and_then, before, field_at, names_at}
 use Rattle.forms.proofs.Buffers.{fuel, onto_before}
 
+-- the names that are used, with the zeros behind them
+abbrev pub names_of : ℕ → List ℕ → List ℕ
+names_of params used = used ++ drop params (replicate 8 0)
+
 -- i names are read: what is left to read, written after them, gives what the whole gives
-pub record Named (params : ℕ) (bytes : List ℕ) (at i next : ℕ) (names : List ℕ) : Type 0 where
-  pub sized : length names ≡ 8
-  pub rest : onto i names (names_at (params - i) bytes next) ≡ onto 0 (replicate 8 0) (names_at params bytes at)
+pub record Named (params : ℕ) (first r : Reader) (i : ℕ) (used : List ℕ) : Type 0 where
+  pub same : r.bytes ≡ first.bytes
+  pub sized : length used ≡ params
+  pub rest : onto i (names_of params used) (names_at (params - i) first.bytes.now r.at) ≡ onto 0 (replicate 8 0) (names_at params first.bytes.now first.at)
 
-pub none : {params : ℕ} {bytes : List ℕ} {at : ℕ} → Named params bytes at 0 at (replicate 8 0)
-none {params} {bytes} {at} = let z : params - 0 ≡ params = omega arith in record { sized = refl; rest = rw z refl }
+module _ {params : ℕ} {first r : Reader} {i : ℕ} {used : List ℕ} (s : Named params first r i used) where
+  step : i < params → onto 0 (replicate 8 0) (names_at params first.bytes.now first.at)
+      ≡ onto i (names_of params used) (and_then (field_at (Some 63) r.bytes.now r.at) (λ p. before p.value (names_at (params - (i + 1)) first.bytes.now p.next)))
+  step h = sym s.rest ∙ rw (fuel params i h, s.same) refl
 
-module _ {params : ℕ} {bytes : List ℕ} {at i next : ℕ} {names : List ℕ} (s : Named params bytes at i next names) where
-  step : i < params → onto 0 (replicate 8 0) (names_at params bytes at)
-      ≡ onto i names (and_then (field_at (Some 63) bytes next) (λ p. before p.value (names_at (params - (i + 1)) bytes p.next)))
-  step h = sym s.rest ∙ rw (fuel params i h) refl
+  pub refused : i < params → (new : Reader) (e : FormFault) → Reads (field_at (Some 63)) r new (Err e)
+      → Reads (λ bytes at. onto 0 (replicate 8 0) (names_at params bytes at)) first new (Err e)
+  refused h new e q = (q.0 ∙ s.same, sym (step h ∙ rw (sym q.1) refl))
 
-  pub refused : i < params → (e : FormFault) → Err e ≡ field_at (Some 63) bytes next → Err e ≡ onto 0 (replicate 8 0) (names_at params bytes at)
-  refused h e r = sym (step h ∙ rw (sym r) refl)
-
-  pub again : i < params → (p : Parsed ℕ) → Ok p ≡ field_at (Some 63) bytes next → Named params bytes at (i + 1) p.next (set names i p.value)
-  again h p r = record {
-    sized = length-set names i p.value ∙ s.sized;
-    rest = sym (step h ∙ rw (sym r) (onto_before i names p.value (names_at (params - (i + 1)) bytes p.next)));
-  }
-
-  pub all : params ≤ i → Ok (record { value = names; next = next }) ≡ onto 0 (replicate 8 0) (names_at params bytes at)
-  all h = let z : params - i ≡ 0 = omega arith in rw z at s.rest
+  pub again : i < params → (new : Reader) (x : ℕ) → Reads (field_at (Some 63)) r new (Ok x) → Named params first new (i + 1) (set used i x)
+  again h new x q =
+      let l : i < length used = omega (arith, s.sized) in
+      record {
+        same = q.0 ∙ s.same;
+        sized = length-set used i x ∙ s.sized;
+        rest = sym (step h ∙ rw (sym q.1, ← set-append_left used (drop params (replicate 8 0)) i x l) (onto_before i (names_of params used) x (names_at (params - (i + 1)) first.bytes.now new.at)));
+      }

@@ -24,6 +24,9 @@ count_good : (r : Result (Parsed ℕ) NumberFault) (used at : ℕ) (p : Parsed �
 count_good (Ok q) used at p e = grind (arith, nat_tests)
 count_good (Err x) used at p e = absurd (grind arith)
 
+pub row_count_good : (used : ℕ) (bytes : List ℕ) (at : ℕ) (p : Parsed ℕ) → row_count_at used bytes at ≡ Ok p → count_ok used p.value ≡ true
+row_count_good used bytes at p e = count_good (number bytes at) used at p e
+
 -- what is known of blocks that were read, with the rows stored for them
 record Blocks (left last room place : ℕ) (stored : List Row) (blocks : List (List Row)) : Type 0 where
   many : length blocks ≡ left
@@ -61,7 +64,7 @@ blocks_sound (suc left) last room bytes at place r =
     before_all (λ p. P ((rows_at count.value last room bytes count.next place).stored ++ (blocks_at left last room bytes next (place + count.value)).stored) p)
     (rows_at count.value last room bytes count.next place).stored (blocks_at left last room bytes next (place + count.value)).outcome (λ q eq.
     lead left last room place count.value (rows_at count.value last room bytes count.next place).stored (blocks_at left last room bytes next (place + count.value)).stored q.value
-    (count_good (number bytes at) place at count ec) g (blocks_sound left last room bytes next (place + count.value) g.fits q eq))))
+    (row_count_good place bytes at count ec) g (blocks_sound left last room bytes next (place + count.value) g.fits q eq))))
 
 -- the names that were read
 record Names (left : ℕ) (names : List ℕ) : Type 0 where

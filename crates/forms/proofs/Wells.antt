@@ -5,9 +5,10 @@ use Rattle.std.proofs.lemmas.Bool.Decides.{nat_tests}
 use Rattle.numbers.specs.Reading.{number}
 use Rattle.numbers.specs.declared.fault.NumberFault.{NumberFault}
 use Rattle.numbers.specs.declared.read.Parsed.{Parsed}
+use Rattle.forms.specs.declared.fault.FormFault.{FormFault}
 use Rattle.forms.specs.declared.limits.Limits.{Limits}
 use Rattle.forms.specs.declared.row.Row.{Row}
-use Rattle.forms.specs.Reading.{Reading, lifted, and_then, up_to, field_at, word_at, fields_at, row_at, rows_at}
+use Rattle.forms.specs.Reading.{Reading, go_on, lifted, and_then, up_to, field_at, word_at, fields_at, row_at, rows_at}
 use Rattle.forms.specs.Rows.{limits_of, within, within_word, fields_ok, row_ok, placed_ok}
 use Rattle.forms.specs.Rules.{block_ok}
 use Rattle.forms.proofs.Outcomes.{and_then_all, fields_all, go_on_all}
@@ -79,3 +80,16 @@ rows_good (suc left) last room bytes at place r =
     })
     (λ _ e. absurd (grind arith)))
     (λ _ e. absurd (grind arith)))
+
+-- a reading goes on alike where what follows is alike
+go_on_same : {X Y : Type 0} (r : Result X FormFault) (f g : X → Reading Y) → ((x : X) → f x ≡ g x) → go_on r f ≡ go_on r g
+go_on_same (Ok x) f g each = each x
+go_on_same (Err e) f g each = refl
+
+-- rows are read alike behind others that are stored, if as much room is left
+pub rows_moved : (count last room : ℕ) (bytes : List ℕ) (at place k : ℕ) → rows_at count last (k + room) bytes at (k + place) ≡ rows_at count last room bytes at place
+rows_moved zero last room bytes at place k = refl
+rows_moved (suc left) last room bytes at place k =
+    let z : (k + place) + 1 ≡ k + (place + 1) = omega arith in
+    let l : ltb (k + place) (k + room) ≡ ltb place room = grind (arith, nat_tests) in
+    go_on_same (row_at last bytes at) _ _ (λ p. rw (l, z, rows_moved left last room bytes p.next (place + 1) k) refl)

@@ -1,5 +1,6 @@
 pub mod Buffers
 pub mod Code
+pub mod Cursor
 pub mod Reading
 pub mod Refusals
 pub mod Rows

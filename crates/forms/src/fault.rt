@@ -24,13 +24,13 @@ pub enum FormFault {
     NotAForm,
 }
 
-impl FormFault {
-    // The number and the fields of the refusal.
-    pub fn refusal(&self) -> Refusal
-        ensures { result ≡ form_refusal self.now }
-    {
-        match *self {
-            FormFault::Number(fault) => fault.refusal(),
+// The number and the fields of the refusal.
+impl From<FormFault> for Refusal {
+    ghost from_gives = { λ e r. r ≡ form_refusal e };
+
+    fn from(e: FormFault) -> Refusal {
+        match e {
+            FormFault::Number(fault) => Refusal::from(fault),
             FormFault::Count(at) => Refusal::at(2, at),
             FormFault::Range(at) => Refusal::at(3, at),
             FormFault::Ending(at) => Refusal::at(4, at),

@@ -7,7 +7,8 @@ mod parts;
 
 use crate::row::{Head, Row};
 
-// A form: lent rows and a lent head that keep the rules of forms.
+// A form: lent rows and a lent head that keep the rules of forms. Clauses say what it means by `code`: a type
+// that borrows and is Copy can have no model.
 #[derive(Clone, Copy)]
 pub struct Form<'r, 'h> {
     rows: &'r [Row],

@@ -31,12 +31,12 @@ const NONE: Limits = Limits {
 
 const NAME: Option<u8> = Some(63);
 
-// The fields of a kind, in a form whose last block is `last`.
+// The fields of a kind, a number of the format, in a form whose last block is `last`.
 pub(crate) fn limits_of(kind: u8, last: u8) -> Limits
     ensures { result ≡ limits_of kind last }
 {
     match kind {
-        0 => Limits {
+        0 | 3 | 4 => Limits {
             d: NAME,
             a: NAME,
             ..NONE
@@ -53,16 +53,6 @@ pub(crate) fn limits_of(kind: u8, last: u8) -> Limits
             b: NAME,
             ..NONE
         },
-        3 => Limits {
-            d: NAME,
-            a: NAME,
-            ..NONE
-        },
-        4 => Limits {
-            d: NAME,
-            a: NAME,
-            ..NONE
-        },
         5 => Limits {
             a: NAME,
             b: NAME,
@@ -74,7 +64,7 @@ pub(crate) fn limits_of(kind: u8, last: u8) -> Limits
             a: NAME,
             ..NONE
         },
-        7 => Limits {
+        7 | 9 => Limits {
             t: Some(last),
             ..NONE
         },
@@ -82,10 +72,6 @@ pub(crate) fn limits_of(kind: u8, last: u8) -> Limits
             a: NAME,
             t: Some(last),
             f: Some(last),
-            ..NONE
-        },
-        9 => Limits {
-            t: Some(last),
             ..NONE
         },
         10 => Limits { a: NAME, ..NONE },
@@ -97,18 +83,17 @@ pub(crate) fn limits_of(kind: u8, last: u8) -> Limits
 fn inside(value: u8, highest: Option<u8>) -> bool
     ensures { result ≡ within highest value }
 {
-    match highest {
-        Some(h) => value <= h,
-        None => value == 0,
-    }
+    value <= highest.unwrap_or(0)
 }
 
+// The same of a constant, which is any word: it has no limit, so it is not one of the fields above.
 fn inside_word(value: u64, there: bool) -> bool
     ensures { result ≡ within_word there value }
 {
     there || value == 0
 }
 
+// Whether each field of a row stays within its limit.
 fn fields_ok(row: &Row, l: &Limits) -> bool
     ensures { result ≡ fields_ok l.now row.now }
 {
@@ -129,7 +114,8 @@ pub(crate) fn row_ok(row: &Row, last: u8) -> bool
     row.kind <= 10 && fields_ok(row, &limits_of(row.kind, last))
 }
 
-// Whether a row may stand where it does: the last of a block is an ending, and no other is.
+// Whether a row may stand where it does: the last of a block is an ending, and no other is. That it is the last is
+// a fact of its place, with no value beside it.
 pub(crate) fn placed(row: &Row, last: bool) -> bool
     ensures { result ≡ placed_ok last row.now }
 {

@@ -1,6 +1,7 @@
 // Reading a form.
 ghost use Rattle.std.specs.Prelude.{◌≡◌, ◌-◌, ◌≤◌, length, replicate};
 ghost use Rattle.forms.specs.Buffers.{over, onto, lengths};
+ghost use Rattle.forms.specs.Cursor.{Reads, number_at, reached};
 ghost use Rattle.forms.specs.Reading.{field_at, word_at, fields_at, row_at, count_in, row_count_at, names_at, rows_at, blocks_at, answer, rows_after, head_after, Fills};
 ghost use Rattle.forms.specs.Writing.{IsWritten, Accepts};
 
@@ -20,185 +21,164 @@ pub fn read_form(bytes: &[u8], rows: &mut [Row], head: &mut Head) -> Result<(), 
     ensures written { IsWritten bytes.now (length rows.old) }
     ensures accepts { Accepts bytes.now (length rows.old) }
 {
-    let block_count = count_in(bytes, 0, 1, 64)?;
-    let param_count = count_in(bytes, block_count.next, 0, 8)?;
-    let names = names_at(bytes, param_count.next, param_count.value)?;
-    let counts = blocks_at(bytes, names.next, block_count.value, rows)?;
-    if counts.next < bytes.len() {
-        return Err(FormFault::LeftOver(counts.next));
+    let mut reader = Reader { bytes, at: 0 };
+    let blocks = reader.count_in(1, 64)?;
+    let params = reader.count_in(0, 8)?;
+    let names = reader.names(params)?;
+    let counts = reader.blocks(blocks, rows)?;
+    if reader.at < bytes.len() {
+        return Err(FormFault::LeftOver(reader.at));
     }
-    let Parsed { value: names, .. } = names;
-    let Parsed { value: counts, .. } = counts;
     *head = Head {
-        blocks: block_count.value,
-        params: param_count.value,
+        blocks,
+        params,
         names,
         counts,
     };
     Ok(())
 }
 
-// A field up to its highest number; of one that is not there nothing is read.
-fn field(bytes: &[u8], at: usize, highest: Option<u8>) -> Result<Parsed<u8>, FormFault>
-    ensures { result ≡ field_at highest bytes.now at }
-{
-    let Some(highest) = highest else {
-        return Ok(Parsed { value: 0, next: at });
-    };
-    let Parsed { value, next } = read_number(bytes, at)?;
-    if value <= highest as u64 {
-        Ok(Parsed {
-            value: value as u8,
-            next,
+// The bytes, and the place where the next thing is read.
+#[derive(Drop)]
+struct Reader<'b> {
+    bytes: &'b [u8],
+    at: usize,
+}
+
+impl<'b> Reader<'b> {
+    // A number.
+    fn number(&mut self) -> Result<u64, FormFault>
+        ensures { Reads number_at self.old self.new result }
+    {
+        let Parsed { value, next } = read_number(self.bytes, self.at)?;
+        self.at = next;
+        Ok(value)
+    }
+
+    // A field up to its highest number; of one that is not there nothing is read.
+    fn field(&mut self, highest: Option<u8>) -> Result<u8, FormFault>
+        ensures { Reads (field_at highest) self.old self.new result }
+    {
+        let Some(highest) = highest else {
+            return Ok(0);
+        };
+        let at = self.at;
+        match u8::try_from(self.number()?) {
+            Ok(value) if value <= highest => Ok(value),
+            _ => Err(FormFault::Range(at)),
+        }
+    }
+
+    // A constant, where there is one: any word, with no limit and so no refusal of its own, unlike a field.
+    fn word(&mut self, there: bool) -> Result<u64, FormFault>
+        ensures { Reads (word_at there) self.old self.new result }
+    {
+        if there { self.number() } else { Ok(0) }
+    }
+
+    // The fields of a row of a kind, which is a number of the format.
+    fn fields(&mut self, kind: u8, l: &Limits) -> Result<Row, FormFault>
+        ensures { Reads (fields_at l.now kind) self.old self.new result }
+    {
+        let o = self.field(l.o)?;
+        let k = self.field(l.k)?;
+        let d = self.field(l.d)?;
+        let a = self.field(l.a)?;
+        let b = self.field(l.b)?;
+        let c = self.word(l.c)?;
+        let t = self.field(l.t)?;
+        let f = self.field(l.f)?;
+        Ok(Row {
+            kind,
+            o,
+            d,
+            a,
+            b,
+            k,
+            c,
+            t,
+            f,
         })
-    } else {
-        Err(FormFault::Range(at))
     }
-}
 
-// A constant, where there is one.
-fn word(bytes: &[u8], at: usize, there: bool) -> Result<Parsed<u64>, FormFault>
-    ensures { result ≡ word_at there bytes.now at }
-{
-    if !there {
-        return Ok(Parsed { value: 0, next: at });
+    // A row of a form whose last block is `last`.
+    fn row(&mut self, last: u8) -> Result<Row, FormFault>
+        ensures { Reads (row_at last) self.old self.new result }
+    {
+        let kind = self.field(Some(10))?;
+        self.fields(kind, &limits_of(kind, last))
     }
-    let read = read_number(bytes, at)?;
-    Ok(read)
-}
 
-// The fields of a row of a kind.
-fn fields_at(bytes: &[u8], at: usize, kind: u8, l: &Limits) -> Result<Parsed<Row>, FormFault>
-    ensures { result ≡ fields_at l.now kind bytes.now at }
-{
-    let o = field(bytes, at, l.o)?;
-    let k = field(bytes, o.next, l.k)?;
-    let d = field(bytes, k.next, l.d)?;
-    let a = field(bytes, d.next, l.a)?;
-    let b = field(bytes, a.next, l.b)?;
-    let c = word(bytes, b.next, l.c)?;
-    let t = field(bytes, c.next, l.t)?;
-    let f = field(bytes, t.next, l.f)?;
-    let value = Row {
-        kind,
-        o: o.value,
-        d: d.value,
-        a: a.value,
-        b: b.value,
-        k: k.value,
-        c: c.value,
-        t: t.value,
-        f: f.value,
-    };
-    Ok(Parsed {
-        value,
-        next: f.next,
-    })
-}
-
-// A row of a form whose last block is `last`.
-fn row_at(bytes: &[u8], at: usize, last: u8) -> Result<Parsed<Row>, FormFault>
-    ensures { result ≡ row_at last bytes.now at }
-{
-    let kind = field(bytes, at, Some(10))?;
-    fields_at(bytes, kind.next, kind.value, &limits_of(kind.value, last))
-}
-
-// A count within its limits.
-fn count_in(bytes: &[u8], at: usize, low: u8, high: u8) -> Result<Parsed<u8>, FormFault>
-    ensures { result ≡ count_in low high bytes.now at }
-{
-    let Parsed { value, next } = read_number(bytes, at)?;
-    if value < low as u64 || value > high as u64 {
-        return Err(FormFault::Count(at));
-    }
-    Ok(Parsed {
-        value: value as u8,
-        next,
-    })
-}
-
-// A block's row count, after `used` rows.
-fn row_count_at(bytes: &[u8], at: usize, used: usize) -> Result<Parsed<u8>, FormFault>
-    requires { used ≤ 512 }
-    ensures { result ≡ row_count_at used bytes.now at }
-{
-    let Parsed { value, next } = read_number(bytes, at)?;
-    if value < 1 || value > 64 || used + value as usize > 512 {
-        return Err(FormFault::Count(at));
-    }
-    Ok(Parsed {
-        value: value as u8,
-        next,
-    })
-}
-
-// The parameters' names; what is not used is 0.
-fn names_at(bytes: &[u8], at: usize, params: u8) -> Result<Parsed<[u8; 8]>, FormFault>
-    requires { params ≤ 8 }
-    ensures { result ≡ onto 0 (replicate 8 0) (names_at params bytes.now at) }
-{
-    let mut names = [0u8; 8];
-    let mut next = at;
-    for i in 0..params {
-        let name = field(bytes, next, Some(63))?;
-        names[i as usize] = name.value;
-        next = name.next;
-    }
-    Ok(Parsed { value: names, next })
-}
-
-// The rows of a block, stored from a place on; the place after them in the bytes.
-fn rows_at(
-    bytes: &[u8],
-    at: usize,
-    last: u8,
-    count: u8,
-    place: usize,
-    rows: &mut [Row],
-) -> Result<usize, FormFault>
-    requires { place ≤ 512 }
-    ensures result { result ≡ (rows_at count last (length rows.old) bytes.now at place).outcome }
-    ensures rows { rows.new ≡ over place (rows_at count last (length rows.old) bytes.now at place).stored rows.old }
-{
-    let mut next = at;
-    for i in 0..count {
-        let row = row_at(bytes, next, last)?;
-        if !placed(&row.value, i + 1 == count) {
-            return Err(FormFault::Ending(next));
+    // A count within its limits. A field has another fault: one over both would take the fault as a closure.
+    fn count_in(&mut self, low: u8, high: u8) -> Result<u8, FormFault>
+        ensures { Reads (count_in low high) self.old self.new result }
+    {
+        let at = self.at;
+        match u8::try_from(self.number()?) {
+            Ok(count) if low <= count && count <= high => Ok(count),
+            _ => Err(FormFault::Count(at)),
         }
-        let to = place + i as usize;
-        if to >= rows.len() {
-            return Err(FormFault::NoPlace(next));
-        }
-        rows[to] = row.value;
-        next = row.next;
     }
-    Ok(next)
-}
 
-// The blocks, their rows stored; what is read of them are their row counts.
-fn blocks_at(
-    bytes: &[u8],
-    at: usize,
-    blocks: u8,
-    rows: &mut [Row],
-) -> Result<Parsed<[u8; 64]>, FormFault>
-    requires { blocks ≤ 64 }
-    ensures result { result ≡ onto 0 (replicate 64 0) (lengths (blocks_at blocks (blocks - 1) (length rows.old) bytes.now at 0).outcome) }
-    ensures rows { rows.new ≡ over 0 (blocks_at blocks (blocks - 1) (length rows.old) bytes.now at 0).stored rows.old }
-{
-    let mut counts = [0u8; 64];
-    let mut next = at;
-    let mut place = 0usize;
-    for b in 0..blocks {
-        let count = row_count_at(bytes, next, place)?;
-        next = rows_at(bytes, count.next, blocks - 1, count.value, place, rows)?;
-        counts[b as usize] = count.value;
-        place += count.value as usize;
+    // A block's row count, after `used` rows.
+    fn row_count(&mut self, used: usize) -> Result<u8, FormFault>
+        requires { used ≤ 512 }
+        ensures { Reads (row_count_at used) self.old self.new result }
+    {
+        let at = self.at;
+        let count = self.count_in(1, 64)?;
+        if used + count as usize > 512 {
+            return Err(FormFault::Count(at));
+        }
+        Ok(count)
     }
-    Ok(Parsed {
-        value: counts,
-        next,
-    })
+
+    // The parameters' names; what is not used is 0.
+    fn names(&mut self, params: u8) -> Result<[u8; 8], FormFault>
+        requires { params ≤ 8 }
+        ensures { Reads (λ bytes at. onto 0 (replicate 8 0) (names_at params bytes at)) self.old self.new result }
+    {
+        let mut names = [0u8; 8];
+        for name in &mut names[..params as usize] {
+            *name = self.field(Some(63))?;
+        }
+        Ok(names)
+    }
+
+    // The rows of a block, stored into the first free places. They are stored by index: `split_first_mut`
+    // and an iterator's `next` were tried, and the proof did not learn what was written into a lent place.
+    fn rows(&mut self, count: u8, last: u8, free: &mut [Row]) -> Result<(), FormFault>
+        ensures result { Reads (λ bytes at. reached (rows_at count last (length free.old) bytes at 0).outcome) self.old self.new result }
+        ensures rows { free.new ≡ over 0 (rows_at count last (length free.old) self.old.bytes.now self.old.at 0).stored free.old }
+    {
+        for i in 0..count as usize {
+            let at = self.at;
+            let row = self.row(last)?;
+            if !placed(&row, i + 1 == count as usize) {
+                return Err(FormFault::Ending(at));
+            }
+            if i >= free.len() {
+                return Err(FormFault::NoPlace(at));
+            }
+            free[i] = row;
+        }
+        Ok(())
+    }
+
+    // The blocks, their rows stored; what is read of them are their row counts. The next free place is counted, which
+    // the limit of 512 rows needs anyway.
+    fn blocks(&mut self, blocks: u8, rows: &mut [Row]) -> Result<[u8; 64], FormFault>
+        requires { blocks ≤ 64 }
+        ensures result { Reads (λ bytes at. onto 0 (replicate 64 0) (lengths (blocks_at blocks (blocks - 1) (length rows.old) bytes at 0).outcome)) self.old self.new result }
+        ensures rows { rows.new ≡ over 0 (blocks_at blocks (blocks - 1) (length rows.old) self.old.bytes.now self.old.at 0).stored rows.old }
+    {
+        let mut counts = [0u8; 64];
+        let mut place = 0usize;
+        for count in &mut counts[..blocks as usize] {
+            *count = self.row_count(place)?;
+            self.rows(*count, blocks - 1, &mut rows[place..])?;
+            place += *count as usize;
+        }
+        Ok(counts)
+    }
 }

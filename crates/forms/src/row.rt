@@ -1,6 +1,7 @@
 // What reading stores: rows, and a head for the rest.
 
 // A row: its kind and its fields. Fields that the kind lacks are 0; the source of a move stands in `a`.
+// Kinds and operations are the format's numbers, not enums: a lent buffer may hold what is no row.
 #[derive(Clone, Copy, PartialEq, Eq, Debug)]
 pub struct Row {
     pub kind: u8,
@@ -30,7 +31,7 @@ impl Row {
 }
 
 // How many blocks and parameters, the parameters' names, and how many rows each block has. What is
-// not used is 0.
+// not used is 0. Fixed arrays with counts beside them: a plain record in lent memory, with no heap.
 #[derive(Clone, Copy)]
 pub struct Head {
     pub blocks: u8,

@@ -21,14 +21,8 @@ fn a_form_that_was_read_is_filled(rt: HostRuntime) -> Result<(), Fail> {
         pause[1],
         Row {
             kind: 9,
-            o: 0,
-            d: 0,
-            a: 0,
-            b: 0,
-            k: 0,
-            c: 0,
             t: 1,
-            f: 0
+            ..Row::NONE
         }
     );
     Ok(())
@@ -40,16 +34,7 @@ fn a_refused_reading_keeps_the_head(rt: HostRuntime) -> Result<(), Fail> {
     let mut head = Head::NONE;
     match read_form(&WORKED, &mut rows, &mut head) {
         Err(fault) => {
-            assert_eq!(rt;
-                fault.refusal(),
-                Refusal {
-                    number: 6,
-                    side: 0,
-                    place: 11,
-                    before: 0,
-                    after: 0
-                }
-            );
+            assert_eq!(rt; Refusal::from(fault), Refusal::at(6, 11));
             assert!(rt; head.blocks == 0 && rows[1].kind == 9);
             Ok(())
         }

@@ -1,41 +1,41 @@
 -- One group more of what is written.
-use Rattle.std.proofs.Common.{◌≡◌, ℕ, suc, ◌+◌, ◌-◌, ◌/◌, ◌%◌, ◌<◌, ◌≤◌, List, [], ◌∷◌, ◌++◌, length, take, set, replicate, sym, refl, ap, ◌∙◌, arith}
-use Rattle.std.proofs.lemmas.List.{append-nil, append_assoc, length-set, take_more_set, take_all}
-use Rattle.std.proofs.lemmas.Bool.{lt-ltb, le-ltb}
+use Rattle.std.proofs.Common.{◌≡◌, ℕ, suc, ◌+◌, ◌-◌, ◌*◌, ◌/◌, ◌%◌, ◌^◌, ◌<◌, ◌≤◌, List, [], ◌∷◌, ◌++◌, length, refl, ap, ⊎_elim, arith, shr_lt}
+use Rattle.std.proofs.lemmas.List.{append_assoc, length-append}
+use Rattle.std.proofs.lemmas.Bool.{cases_lt, le-ltb}
 use Rattle.numbers.specs.Writing.{written_in, written}
 
--- i groups stand in the bytes: they and what is left to write are the whole
-pub record Partly (value i left : ℕ) (bytes : List ℕ) : Type 0 where
-  pub sized : length bytes ≡ 10
-  pub whole : take i bytes ++ written_in (10 - i) left ≡ written value
+-- these groups and what is left to write are the whole, and what is left has room
+pub record Partly (value rest : ℕ) (groups : List ℕ) : Type 0 where
+  pub few : length groups ≤ 9
+  pub low : rest < 2 ^ (7 * (10 - length groups))
+  pub whole : groups ++ written_in (10 - length groups) rest ≡ written value
 
-pub none : {value : ℕ} → Partly value 0 value (replicate 10 0)
+pub none : (value : ℕ) (groups : List ℕ) → value < 2 ^ 64 → groups ≡ [] → Partly value value groups
 unfolding written
-none = record { sized = refl; whole = refl }
+none value groups h e = rw e (record { few = omega arith; low = omega arith; whole = refl })
 
-module _ {value i left : ℕ} {bytes : List ℕ} (s : Partly value i left bytes) where
-  fuel : i < 10 → 10 - i ≡ suc (10 - (i + 1))
-  fuel h = omega arith
+module _ {value rest : ℕ} {groups : List ℕ} (s : Partly value rest groups) where
+  fuel : 10 - length groups ≡ suc (10 - (length groups + 1))
+  fuel = let f = s.few in omega arith
 
-  pub last : i < 10 → left < 128 → take (i + 1) (set bytes i left) ≡ written value
-  last h l =
-      let w : i < length bytes = omega (arith, s.sized) in
-      take_more_set bytes i left w ∙ rw (lt-ltb left 128 l) at (rw (fuel h) at s.whole)
+  -- the tenth group is the last
+  not_last : 128 ≤ rest → length groups < 9
+  not_last h =
+      ⊎_elim
+      (λ (l : length groups < 9). l)
+      (λ (l : 9 ≤ length groups).
+      let e : 10 - length groups ≡ 1 = let f = s.few in omega arith in
+      let b : rest < 128 = rw e at s.low in
+      absurd (omega arith))
+      (cases_lt (length groups) 9)
 
-  pub more : i < 10 → 128 ≤ left → Partly value (i + 1) (left / 128) (set bytes i (128 + left % 128))
-  more h l =
-      let w : i < length bytes = omega (arith, s.sized) in
+  pub more : 128 ≤ rest → (groups' : List ℕ) → groups' ≡ groups ++ ((128 + rest % 128) ∷ []) → Partly value (rest / 128) groups'
+  more h groups' e =
+      let n : length groups' ≡ length groups + 1 = omega (arith, ap length e, length-append groups ((128 + rest % 128) ∷ [])) in
+      let t : 7 * (10 - length groups) ≡ 7 * (10 - (length groups + 1)) + 7 = let f = s.few in omega arith in
+      let b : rest / 128 < 2 ^ (7 * (10 - (length groups + 1))) = shr_lt (7 * (10 - (length groups + 1))) 7 (rw t at s.low) in
       record {
-        sized = length-set bytes i (128 + left % 128) ∙ s.sized;
-        whole =
-            ap (λ (x : List ℕ). x ++ written_in (10 - (i + 1)) (left / 128)) (take_more_set bytes i (128 + left % 128) w)
-            ∙ append_assoc (take i bytes) ((128 + left % 128) ∷ []) (written_in (10 - (i + 1)) (left / 128))
-            ∙ rw (le-ltb left 128 l) at (rw (fuel h) at s.whole);
+        few = omega (arith, not_last h);
+        low = rw n b;
+        whole = rw (n, e, append_assoc) (rw (le-ltb rest 128 h) at (rw fuel at s.whole));
       }
-
-  pub all : 10 ≤ i → take 10 bytes ≡ written value
-  all h =
-      let z : 10 - i ≡ 0 = omega arith in
-      let a : length bytes ≤ i = omega (arith, s.sized) in
-      let b : length bytes ≤ 10 = omega (arith, s.sized) in
-      take_all 10 bytes b ∙ sym (take_all i bytes a) ∙ sym (append-nil (take i bytes)) ∙ rw z at s.whole

@@ -12,15 +12,15 @@ pub enum NumberFault {
     TooLarge(usize),
 }
 
-impl NumberFault {
-    // The number and the fields of the refusal.
-    pub fn refusal(&self) -> Refusal
-        ensures { result ≡ number_refusal self.now }
-    {
-        match *self {
-            NumberFault::CutOff(at) => Refusal::at(1, at),
-            NumberFault::NotShortest(at) => Refusal::at(1, at),
-            NumberFault::TooLarge(at) => Refusal::at(1, at),
+// The number and the fields of the refusal.
+impl From<NumberFault> for Refusal {
+    ghost from_gives = { λ e r. r ≡ number_refusal e };
+
+    fn from(e: NumberFault) -> Refusal {
+        match e {
+            NumberFault::CutOff(at) | NumberFault::NotShortest(at) | NumberFault::TooLarge(at) => {
+                Refusal::at(1, at)
+            }
         }
     }
 }

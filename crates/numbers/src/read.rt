@@ -17,27 +17,22 @@ pub fn read_number(bytes: &[u8], at: usize) -> Result<Parsed<u64>, NumberFault>
     ensures result { result ≡ number bytes.now at }
     ensures written { IfOk result (WrittenAt bytes.now at) }
 {
+    let rest = bytes.get(at..).unwrap_or(&[]);
     let mut value: u64 = 0;
     let mut scale: u64 = 1;
-    let mut next = at;
-    for group in 0..10u8 {
-        if next >= bytes.len() {
-            return Err(NumberFault::CutOff(at));
-        }
-        let b = bytes[next];
+    for (group, &b) in rest.iter().enumerate() {
         match b {
             0 if group > 0 => return Err(NumberFault::NotShortest(at)),
             2..=255 if group == 9 => return Err(NumberFault::TooLarge(at)),
             0..=127 => return Ok(Parsed {
                 value: value + b as u64 * scale,
-                next: next + 1,
+                next: at + group + 1,
             }),
             _ => {
                 value += (b as u64 - 128) * scale;
                 scale *= 128;
-                next += 1;
             }
         }
     }
-    Err(NumberFault::TooLarge(at))
+    Err(NumberFault::CutOff(at))
 }

@@ -3,7 +3,8 @@ ghost use Rattle.std.specs.Prelude.{◌≡◌};
 ghost use Rattle.numbers.specs.Refusals.{at_place};
 
 // A refusal: its number, the side it speaks of (1 before, 2 after, 0 neither), the place (a block or a
-// byte), and a row of each side. Fields that a refusal does not name are 0.
+// byte), and a row of each side. Fields that a refusal does not name are 0. Plain numbers, not enums:
+// customers' tools compare this record.
 #[derive(Clone, Copy, PartialEq, Eq, Debug)]
 pub struct Refusal {
     pub number: u8,

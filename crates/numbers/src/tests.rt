@@ -16,16 +16,7 @@ fn reads_128(rt: HostRuntime) {
 fn refuses_a_longer_writing(rt: HostRuntime) -> Result<(), Fail> {
     match read_number(&[0x80, 0x00], 0) {
         Err(fault) => {
-            assert_eq!(rt;
-                fault.refusal(),
-                Refusal {
-                    number: 1,
-                    side: 0,
-                    place: 0,
-                    before: 0,
-                    after: 0
-                }
-            );
+            assert_eq!(rt; Refusal::from(fault), Refusal::at(1, 0));
             Ok(())
         },
         Ok(_) => Err(Fail::new("accepted")),

@@ -1,15 +1,9 @@
 // Writing a number.
-ghost use Rattle.std.specs.Prelude.{◌≡◌, ◌≤◌, ◌++◌, take, is_ok, if◌then◌else◌, vec_len, OnOk};
+ghost use Rattle.std.specs.Prelude.{◌≡◌, ◌++◌, is_ok, if◌then◌else◌, vec_len, OnOk};
 ghost use Rattle.numbers.specs.Writing.{written, ReadsBack};
 
+use arrayvec::ArrayVec;
 use std::alloc::AllocError;
-
-// The groups of a number, at most ten of them.
-#[derive(Clone, Copy)]
-struct Groups {
-    bytes: [u8; 10],
-    count: usize,
-}
 
 // Appends a number. What is appended reads back as that number, whatever follows it.
 pub fn write_number(out: &mut Vec<u8>, value: u64) -> Result<(), AllocError>
@@ -17,25 +11,20 @@ pub fn write_number(out: &mut Vec<u8>, value: u64) -> Result<(), AllocError>
     ensures reads { OnOk result (ReadsBack value (vec_len out.old) out.new.items) }
 {
     let groups = groups_of(value);
-    out.extend_from_slice(&groups.bytes[0..groups.count])
+    out.extend_from_slice(groups.as_slice())
 }
 
-fn groups_of(value: u64) -> Groups
-    ensures count { result.count ≤ 10 }
-    ensures bytes { take result.count result.bytes ≡ written value }
+// The groups of a number, at most ten of them.
+fn groups_of(value: u64) -> ArrayVec<u8, 10>
+    ensures { result.items ≡ written value }
 {
-    let mut bytes = [0u8; 10];
+    let mut groups = ArrayVec::new();
     let mut rest = value;
-    for i in 0..10usize {
-        if rest < 128 {
-            bytes[i] = rest as u8;
-            return Groups {
-                bytes,
-                count: i + 1,
-            };
-        }
-        bytes[i] = 128 + (rest % 128) as u8;
+    // both casts are below 256, which is proved: `try_from` would add a fault that cannot come
+    while rest >= 128 {
+        groups.push(128 + (rest % 128) as u8);
         rest /= 128;
     }
-    Groups { bytes, count: 10 }
+    groups.push(rest as u8);
+    groups
 }

@@ -1,4 +1,3 @@
-mod Cutting
-pub mod Fronts
+pub mod Folding
 pub mod Naming
 pub mod Numbers

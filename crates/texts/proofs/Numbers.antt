@@ -1,8 +1,8 @@
 -- A loop that reads digits.
-use Rattle.std.proofs.Common.{◌≡◌, ℕ, ◌+◌, ◌-◌, ◌*◌, ◌^◌, ◌<◌, ◌≤◌, Bool, true, false, cond, ltb, List, [], ◌∷◌, ◌++◌, length, get_or, take, drop, Some, None, Option, sym, refl, ap, ◌∙◌, append_assoc, mul-le-mul_left, mul-one, arith, length-drop}
-use Rattle.std.proofs.lemmas.List.{take_all}
-use Rattle.std.proofs.lemmas.Bool.{cond-true, cond-false, lt-ltb, le-ltb, ltb-true, ltb-false, and_from, eq-eqb}
-use Rattle.texts.specs.Digits.{then, digit_in, written, narrow, extended, numeral, number, pair, pairs}
+use Rattle.std.proofs.Common.{◌≡◌, ℕ, ◌+◌, ◌*◌, ◌^◌, ◌<◌, ◌≤◌, Bool, true, false, cond, ltb, List, [], ◌∷◌, ◌++◌, length, get_or, Some, None, Option, sym, refl, ap, ◌∙◌, append_assoc, mul-le-mul_left, mul-one, arith}
+use Rattle.std.proofs.lemmas.Bool.{cond-true, cond-false, lt-ltb, le-ltb, ltb-true, ltb-false}
+use Rattle.std.proofs.lemmas.Option.{cond_some, none-some}
+use Rattle.texts.specs.Digits.{then, digit_in, written, narrow, extended, numeral, pair, pairs}
 
 narrow_large : (n : ℕ) → 2 ^ 64 ≤ n → narrow (Some n) ≡ None
 narrow_large n h = cond-false (ltb n (2 ^ 64)) _ _ (le-ltb n (2 ^ 64) h)
@@ -19,21 +19,19 @@ too_large base n (b ∷ bs) one h = at_digit (digit_in base b) (λ d. too_large 
     at_digit None k = refl
     at_digit (Some d) k = k d
 
-kept : (t : Bool) (m w : ℕ) → cond t (Some m) None ≡ Some w → m ≡ w
-kept true m w e = grind arith
-kept false m w e = absurd (grind arith)
-
 lost : (t : Bool) (m : ℕ) → cond t (Some m) None ≡ None → t ≡ false
 lost true m e = absurd (grind arith)
 lost false m e = refl
 
 module _ (base n b : ℕ) (bs : List ℕ) where
-  pub goes_on : (w : ℕ) → extended base n b ≡ Some w → written base n (b ∷ bs) ≡ written base w bs
+  pub goes_on : (w : ℕ) → extended base n b ≡ Some w → (w < 2 ^ 64) × (written base n (b ∷ bs) ≡ written base w bs)
   goes_on w = at_digit (digit_in base b)
     where
-      at_digit : (o : Option ℕ) → narrow (then o (λ d. Some (n * base + d))) ≡ Some w → then o (λ d. written base (n * base + d) bs) ≡ written base w bs
-      at_digit None e = absurd (grind arith)
-      at_digit (Some d) e = ap (λ m. written base m bs) (kept (ltb (n * base + d) (2 ^ 64)) (n * base + d) w e)
+      at_digit : (o : Option ℕ) → narrow (then o (λ d. Some (n * base + d))) ≡ Some w → (w < 2 ^ 64) × (then o (λ d. written base (n * base + d) bs) ≡ written base w bs)
+      at_digit None e = absurd (none-some w e)
+      at_digit (Some d) e =
+          let (small, is) = cond_some (ltb (n * base + d) (2 ^ 64)) (n * base + d) w e in
+          (omega (arith, is, ltb-true (n * base + d) (2 ^ 64) small), ap (λ m. written base m bs) is)
 
   pub breaks_off : 1 ≤ base → extended base n b ≡ None → narrow (written base n (b ∷ bs)) ≡ None
   breaks_off one = at_digit (digit_in base b)
@@ -46,39 +44,25 @@ pub numeral_some : (base : ℕ) (bs : List ℕ) → 0 < length bs → numeral ba
 numeral_some base [] h = absurd (omega arith)
 numeral_some base (b ∷ bs) h = refl
 
--- the first two of a list, and what a pattern has as the rest
-pairs_cons : (rest : List ℕ) → 2 ≤ length rest → pairs rest ≡ then (pair (get_or rest 0 0) (get_or rest 1 0)) (λ x. then (pairs (take (length rest - 2) (drop 2 rest))) (λ xs. Some (x ∷ xs)))
-pairs_cons [] h = absurd (omega arith)
-pairs_cons (a ∷ []) h = absurd (omega arith)
-pairs_cons (a ∷ b ∷ bs) h = ap (λ l. then (pair a b) (λ x. then (pairs l) (λ xs. Some (x ∷ xs)))) (sym (take_all _ bs (omega arith)))
+-- two digits before the rest
+pairs_cons : (ds rest : List ℕ) → length ds ≡ 2 → pairs (ds ++ rest) ≡ then (pair (get_or ds 0 0) (get_or ds 1 0)) (λ x. then (pairs rest) (λ xs. Some (x ∷ xs)))
+pairs_cons [] rest h = absurd (omega arith)
+pairs_cons (a ∷ []) rest h = absurd (omega arith)
+pairs_cons (a ∷ b ∷ []) rest h = refl
+pairs_cons (a ∷ b ∷ c ∷ ds) rest h = absurd (omega arith)
 
 grown : (xs : List ℕ) (byte : ℕ) (o : Option (List ℕ)) → then (then o (λ ys. Some (byte ∷ ys))) (λ ys. Some (xs ++ ys)) ≡ then o (λ ys. Some ((xs ++ byte ∷ []) ++ ys))
 grown xs byte None = refl
 grown xs byte (Some ys) = ap Some (sym (append_assoc xs (byte ∷ []) ys))
 
-pub one_pair : (wrote : Option (List ℕ)) (xs rest : List ℕ) → 2 ≤ length rest → wrote ≡ then (pairs rest) (λ ys. Some (xs ++ ys)) → (byte : ℕ) → pair (get_or rest 0 0) (get_or rest 1 0) ≡ Some byte → wrote ≡ then (pairs (take (length rest - 2) (drop 2 rest))) (λ ys. Some ((xs ++ byte ∷ []) ++ ys))
-one_pair wrote xs rest long sofar byte e =
-    let front = pairs_cons rest long ∙ ap (λ o. then o (λ x. then (pairs (take (length rest - 2) (drop 2 rest))) (λ ys. Some (x ∷ ys)))) e in
-    sofar ∙ ap (λ o. then o (λ ys. Some (xs ++ ys))) front ∙ grown xs byte _
+pub one_pair : (wrote : Option (List ℕ)) (xs ds rest : List ℕ) → length ds ≡ 2 → wrote ≡ then (pairs (ds ++ rest)) (λ ys. Some (xs ++ ys)) → (byte : ℕ) → pair (get_or ds 0 0) (get_or ds 1 0) ≡ Some byte → wrote ≡ then (pairs rest) (λ ys. Some ((xs ++ byte ∷ []) ++ ys))
+one_pair wrote xs ds rest two sofar byte e =
+    let front = pairs_cons ds rest two ∙ ap (λ o. then o (λ x. then (pairs rest) (λ ys. Some (x ∷ ys)))) e in
+    sofar ∙ ap (λ o. then o (λ ys. Some (xs ++ ys))) front ∙ grown xs byte (pairs rest)
 
 pub unchanged : (wrote : Option (List ℕ)) → wrote ≡ then wrote (λ ys. Some ([] ++ ys))
 unchanged None = refl
 unchanged (Some ys) = refl
-
-pub hex_number : (bs : List ℕ) → 2 ≤ length bs → get_or bs 0 0 ≡ 48 → get_or bs 1 0 ≡ 120 → narrow (numeral 16 (take (length bs - 2) (drop 2 bs))) ≡ number bs
-hex_number bs h zero x =
-    ap (λ l. narrow (numeral 16 l)) (take_all _ (drop 2 bs) (omega (arith, length-drop 2 bs))) ∙ sym (cond-true _ _ _ (and_from _ _ (eq-eqb _ _ zero) (eq-eqb _ _ x)))
-
-pub extended_small : (base n b w : ℕ) → extended base n b ≡ Some w → w < 2 ^ 64
-extended_small base n b w = at_digit (digit_in base b)
-  where
-    at_digit : (o : Option ℕ) → narrow (then o (λ d. Some (n * base + d))) ≡ Some w → w < 2 ^ 64
-    at_digit None e = absurd (grind arith)
-    at_digit (Some d) e = fits (ltb (n * base + d) (2 ^ 64)) refl e
-      where
-        fits : (t : Bool) → ltb (n * base + d) (2 ^ 64) ≡ t → cond t (Some (n * base + d)) None ≡ Some w → w < 2 ^ 64
-        fits true small is = omega (arith, kept true (n * base + d) w is, ltb-true (n * base + d) (2 ^ 64) small)
-        fits false small is = absurd (grind arith)
 
 pub pushed_after : (old items new xs : List ℕ) (byte : ℕ) → new ≡ items ++ byte ∷ [] → items ≡ old ++ xs → new ≡ old ++ (xs ++ byte ∷ [])
 pushed_after old items new xs byte e f = e ∙ ap (λ l. l ++ byte ∷ []) f ∙ append_assoc old xs (byte ∷ [])

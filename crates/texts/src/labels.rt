@@ -1,52 +1,39 @@
 // How rows, refusals and the counts of a form are printed.
-ghost use Rattle.std.specs.Prelude.{◌≡◌, Some};
+ghost use Rattle.std.specs.Prelude.{◌≡◌, Some, map};
 ghost use Rattle.forms.specs.View.{code};
 ghost use Rattle.texts.specs.Counts.{counts_of};
-ghost use Rattle.texts.specs.Labels.{label, operations, kinds, refusal_text, counts_text, row_text};
+ghost use Rattle.texts.specs.Labels.{label, refusal_text, counts_text, row_text};
 
 use forms::{Form, Row};
 use numbers::Refusal;
 use std::fmt;
 
-// The name of an operation.
-fn operation_name(operation: u8) -> &'static str
-    ensures { result.now ≡ label operations operation }
-{
-    match operation {
-        0 => "add",
-        1 => "subtract",
-        2 => "multiply",
-        3 => "and",
-        4 => "or",
-        5 => "xor",
-        6 => "shl",
-        7 => "shr",
-        8 => "divide",
-        9 => "remainder",
-        10 => "less",
-        11 => "equal",
-        _ => "?",
-    }
-}
+// The operations, each at its number.
+const OPERATIONS: [&str; 12] = [
+    "add",
+    "subtract",
+    "multiply",
+    "and",
+    "or",
+    "xor",
+    "shl",
+    "shr",
+    "divide",
+    "remainder",
+    "less",
+    "equal",
+];
 
-// The name of a kind of rows.
-fn kind_name(kind: u8) -> &'static str
-    ensures { result.now ≡ label kinds kind }
+// The kinds of rows, each at its number.
+const KINDS: [&str; 11] = [
+    "move", "constant", "operate", "fit", "load", "store", "call", "go", "choose", "pause", "give",
+];
+
+// The name at a number, or a question mark past the end.
+fn label(names: &[&'static str], n: u8) -> &'static str
+    ensures { result.now ≡ label (map (λ s. s.now) names.now) n }
 {
-    match kind {
-        0 => "move",
-        1 => "constant",
-        2 => "operate",
-        3 => "fit",
-        4 => "load",
-        5 => "store",
-        6 => "call",
-        7 => "go",
-        8 => "choose",
-        9 => "pause",
-        10 => "give",
-        _ => "?",
-    }
+    names.get(usize::from(n)).copied().unwrap_or("?")
 }
 
 // A refusal as it is printed.
@@ -90,11 +77,11 @@ impl fmt::Display for RowText {
             t,
             f: otherwise,
         } = self.0;
-        let name = kind_name(kind);
+        let name = label(&KINDS, kind);
         match kind {
             0 | 3 | 4 => write!(f, "{name} {d} {a}"),
             1 => write!(f, "{name} {d} 0x{c:x}"),
-            2 => write!(f, "{name} {} {d} {a} {b}", operation_name(o)),
+            2 => write!(f, "{name} {} {d} {a} {b}", label(&OPERATIONS, o)),
             5 => write!(f, "{name} {a} {b}"),
             6 => write!(f, "{name} {k} {d} {a}"),
             7 | 9 => write!(f, "{name} {t}"),

@@ -9,12 +9,7 @@ use std::alloc::AllocFailed;
 pub fn hex_value(b: u8) -> Option<u8>
     ensures { result ≡ digit b }
 {
-    match b {
-        b'0'..=b'9' => Some(b - b'0'),
-        b'a'..=b'f' => Some(b - b'a' + 10),
-        b'A'..=b'F' => Some(b - b'A' + 10),
-        _ => None,
-    }
+    u8::try_from(char::from(b).to_digit(16)?).ok()
 }
 
 // The value of a digit in a base.
@@ -50,11 +45,9 @@ fn numeral_value(base: u64, digits: &[u8]) -> Option<u64>
     if digits.is_empty() {
         return None;
     }
-    let mut value = 0u64;
-    for b in digits {
-        value = with_digit(base, value, *b)?;
-    }
-    Some(value)
+    digits
+        .iter()
+        .try_fold(0, |value, b| with_digit(base, value, *b))
 }
 
 // The number that a word writes: decimal, or 0x and hexadecimal digits.
@@ -71,8 +64,7 @@ pub fn number_value(word: &[u8]) -> Option<u64>
 pub fn byte_value(word: &[u8]) -> Option<u8>
     ensures { result ≡ byte_number word.now }
 {
-    let value = number_value(word)?;
-    if value < 256 { Some(value as u8) } else { None }
+    u8::try_from(number_value(word)?).ok()
 }
 
 // The width that a word declares, where all above 255 are handed on as 255, which is no width either.
@@ -80,7 +72,7 @@ pub fn width_value(word: &[u8]) -> Option<u8>
     ensures { result ≡ declared_width word.now }
 {
     let value = number_value(word)?;
-    Some(value.min(255) as u8)
+    Some(u8::try_from(value).unwrap_or(u8::MAX))
 }
 
 // Why a word's bytes were not read.
@@ -102,15 +94,12 @@ impl<T: Drop> From<AllocFailed<T>> for PairsFault {
 pub fn push_pairs(bytes: &mut Vec<u8>, word: &[u8]) -> Result<(), PairsFault>
     ensures { Pushed bytes.old.items bytes.new.items (pairs word.now) result }
 {
-    let mut rest = word;
-    while let [high, low, more @ ..] = rest {
+    for digits in word.chunks(2) {
+        let [high, low] = digits else {
+            return Err(PairsFault::NotPairs);
+        };
         let byte = pair_value(*high, *low).ok_or(PairsFault::NotPairs)?;
         bytes.push(byte)?;
-        rest = more;
     }
-    if rest.is_empty() {
-        Ok(())
-    } else {
-        Err(PairsFault::NotPairs)
-    }
+    Ok(())
 }

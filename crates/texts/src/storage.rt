@@ -9,10 +9,7 @@ pub fn stored_rows(rows: &[Row]) -> usize
     ensures count { result ≡ stored rows.now }
     ensures within { result ≤ length rows.now }
 {
-    for (i, row) in rows.iter().enumerate() {
-        if row.kind == Row::NONE.kind {
-            return i;
-        }
-    }
-    rows.len()
+    rows.iter()
+        .take_while(|row| row.kind != Row::NONE.kind)
+        .count()
 }

@@ -1,42 +1,41 @@
 // Making a table of cells, and what it answers.
-ghost use Rattle.std.specs.Prelude.{◌≡◌, ◌≤◌, length, take, IfOk, slice_index};
+ghost use Rattle.std.specs.Prelude.{◌≡◌, ◌≤◌, length, take, IfOk, slice_get, slice_index};
 ghost use Rattle.banks.specs.Kind.{is_width};
 ghost use Rattle.banks.specs.Made.{table_fault, Fresh};
-ghost use Rattle.banks.specs.Meanings.{table_of};
-ghost use Rattle.banks.specs.Table.{all_widths, cell_look, table_put};
+ghost use Rattle.banks.specs.Meanings.{by_place, table_of};
+ghost use Rattle.banks.specs.Table.{all_widths, cell_look, no_words, table_put, widths_of, words_of};
 ghost use Rattle.std.specs.Result.{result_err};
 
-use crate::cells::Cells;
+use crate::cells::{Cell, Cells};
 use crate::fault::BankFault;
 use crate::words::low_bytes;
+use std::array;
 
+// Whether a cell can have so many bytes.
 fn is_width(n: u8) -> bool
     ensures { result ≡ is_width n }
 {
-    n == 1 || n == 2 || n == 4 || n == 8
+    matches!(n, 1 | 2 | 4 | 8)
 }
 
+// Whether it can have each of these.
 fn all_widths(widths: &[u8]) -> bool
     ensures { result ≡ all_widths widths.now }
 {
-    for w in widths {
-        if !is_width(*w) {
-            return false;
-        }
-    }
-    true
+    widths.iter().all(|w| is_width(*w))
 }
 
-// A row of 64 that begins with the given widths.
-fn spread(widths: &[u8]) -> [u8; 64]
+// A row of 64 cells that begins with the given widths; every word is 0.
+fn spread(widths: &[u8]) -> [Cell; 64]
     requires { length widths.now ≤ 64 }
-    ensures { take (length widths.now) result ≡ widths.now }
+    ensures widths { take (length widths.now) (widths_of result) ≡ widths.now }
+    ensures words { by_place (words_of result) ≡ no_words }
+    ensures len { length (widths_of result) ≡ 64 }
 {
-    let mut row = [0; 64];
-    for i in 0..widths.len() {
-        row[i] = widths[i];
-    }
-    row
+    array::from_fn(|a| Cell {
+        width: widths.get(a).copied().unwrap_or(0),
+        word: 0,
+    })
 }
 
 impl Cells {
@@ -46,16 +45,16 @@ impl Cells {
         ensures fault { result_err result ≡ table_fault most widths.now }
         ensures made { IfOk result (λ cells. Fresh widths.now (table_of cells)) }
     {
-        if widths.len() < 1 || widths.len() > most as usize {
+        if widths.is_empty() || widths.len() > most as usize {
             return Err(BankFault::Count);
         }
         if !all_widths(widths) {
             return Err(BankFault::Width);
         }
         Ok(Cells {
+            // at most 64, which is proved: `try_from` would add a fault that cannot come
             count: widths.len() as u8,
-            widths: spread(widths),
-            words: [0; 64],
+            cells: spread(widths),
         })
     }
 
@@ -66,26 +65,26 @@ impl Cells {
         self.count
     }
 
+    // A cell, where there is one.
+    fn cell(&self, a: u8) -> Option<Cell>
+        ensures { result ≡ slice_get (take self.now.count self.now.cells) a }
+    {
+        self.cells[..self.count as usize].get(a as usize).copied()
+    }
+
     // The width of a cell; 0 where there is none.
     pub(crate) fn width(&self, a: u8) -> u8
         ensures { result ≡ slice_index (table_of self.now).widths a }
     {
-        if a < self.count {
-            self.widths[a as usize]
-        } else {
-            0
-        }
+        self.cell(a).map_or(0, |cell| cell.width)
     }
 
     // What a cell holds; 0 where there is none.
     pub(crate) fn look(&self, a: u8) -> u64
         ensures { result ≡ cell_look (table_of self.now).widths (table_of self.now).words a }
     {
-        if a < self.count {
-            low_bytes(self.words[a as usize], self.widths[a as usize])
-        } else {
-            0
-        }
+        self.cell(a)
+            .map_or(0, |cell| low_bytes(cell.word, cell.width))
     }
 
     // Puts a word into a cell; does nothing where there is none.
@@ -93,7 +92,7 @@ impl Cells {
         ensures { table_of self.new ≡ table_put (table_of self.old) a w }
     {
         if a < self.count {
-            self.words[a as usize] = w;
+            self.cells[a as usize].word = w;
         }
     }
 }

@@ -1,6 +1,6 @@
 // Making a frame, and the bank that it is.
 ghost use Rattle.std.specs.Prelude.{◌≡◌, IfOk, MatchResult};
-ghost use Rattle.banks.specs.Frame.{frame, over, with_slots};
+ghost use Rattle.banks.specs.Frame.{frame, over, slot_at, with_slots};
 ghost use Rattle.banks.specs.Made.{frame_fault, Fresh};
 ghost use Rattle.banks.specs.Meanings.{table_of};
 ghost use Rattle.std.specs.Option.{option_map};
@@ -11,6 +11,7 @@ use crate::bank::Bank;
 use crate::cells::Cells;
 use crate::fault::BankFault;
 use crate::frame::{Frame, Unframed};
+use crate::loss::Loss;
 
 impl<B: Bank> Frame<B> {
     // Slots of the declared widths, all 0, behind the names of a bank; or the bank again.
@@ -35,6 +36,21 @@ impl<B: Bank> Frame<B> {
     }
 }
 
+impl<B: Bank> Frame<B> {
+    // The slot that a name is, where it is one: none comes from 64 on.
+    fn slot(&self, a: u8) -> Option<u8>
+        ensures { result ≡ slot_at (B.Bank.kind.describe (B.Bank.meaning self.now.below)).names a }
+    {
+        if a < 64 {
+            a.checked_sub(self.below.names())
+        } else {
+            None
+        }
+    }
+}
+
+// What is no slot is asked of the bank below, which has nothing from 64 on. Each method asks its own question of either:
+// only a macro would say that once, and the gate takes no impl by a macro of ours.
 impl<B: Bank> Bank for Frame<B> {
     ghost kind = { frame B.Bank.kind };
 
@@ -47,65 +63,41 @@ impl<B: Bank> Bank for Frame<B> {
     }
 
     fn width(&self, a: u8) -> u8 {
-        let n = self.below.names();
-        if a < n {
-            self.below.width(a)
-        } else if a < 64 {
-            self.slots.width(a - n)
-        } else {
-            0
+        match self.slot(a) {
+            Some(slot) => self.slots.width(slot),
+            None => self.below.width(a),
         }
     }
 
     fn touches(&self, a: u8, b: u8) -> bool {
-        if a < self.below.names() {
-            self.below.touches(a, b)
-        } else {
-            a == b && a < self.names()
+        match self.slot(a) {
+            Some(slot) => a == b && slot < self.slots.len(),
+            None => self.below.touches(a, b),
         }
     }
 
-    fn kept_over_call(&self, a: u8) -> bool {
-        if a < self.below.names() {
-            self.below.kept_over_call(a)
-        } else {
-            a < self.names()
-        }
-    }
-
-    fn kept_over_pause(&self, a: u8) -> bool {
-        if a < self.below.names() {
-            self.below.kept_over_pause(a)
-        } else {
-            a < self.names()
+    fn kept_over(&self, loss: Loss, a: u8) -> bool {
+        match self.slot(a) {
+            Some(slot) => slot < self.slots.len(),
+            None => self.below.kept_over(loss, a),
         }
     }
 
     fn look(&self, a: u8) -> u64 {
-        let n = self.below.names();
-        if a < n {
-            self.below.look(a)
-        } else if a < 64 {
-            self.slots.look(a - n)
-        } else {
-            0
+        match self.slot(a) {
+            Some(slot) => self.slots.look(slot),
+            None => self.below.look(a),
         }
     }
 
     fn put(&mut self, a: u8, w: u64) {
-        let n = self.below.names();
-        if a < n {
-            self.below.put(a, w);
-        } else if a < 64 {
-            self.slots.put(a - n, w);
+        match self.slot(a) {
+            Some(slot) => self.slots.put(slot, w),
+            None => self.below.put(a, w),
         }
     }
 
-    fn lose_at_call(&mut self, w: u64) {
-        self.below.lose_at_call(w);
-    }
-
-    fn lose_at_pause(&mut self, w: u64) {
-        self.below.lose_at_pause(w);
+    fn lose(&mut self, loss: Loss, w: u64) {
+        self.below.lose(loss, w);
     }
 }

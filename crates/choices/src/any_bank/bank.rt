@@ -7,8 +7,9 @@ ghost use Rattle.banks.specs.Frames.{frame_laws};
 ghost use Rattle.choices.specs.AnyBankLaws.{plain_laws, framed_laws};
 
 use crate::any_bank::AnyBank;
-use banks::Bank;
+use banks::{Bank, Loss};
 
+// Each method asks the choice. Only a macro would say that once, and the gate takes no impl by a macro of ours.
 impl Bank for AnyBank {
     ghost kind = { any };
 
@@ -28,12 +29,8 @@ impl Bank for AnyBank {
         self.choice.touches(a, b)
     }
 
-    fn kept_over_call(&self, a: u8) -> bool {
-        self.choice.kept_over_call(a)
-    }
-
-    fn kept_over_pause(&self, a: u8) -> bool {
-        self.choice.kept_over_pause(a)
+    fn kept_over(&self, loss: Loss, a: u8) -> bool {
+        self.choice.kept_over(loss, a)
     }
 
     fn look(&self, a: u8) -> u64 {
@@ -44,11 +41,7 @@ impl Bank for AnyBank {
         self.choice.put(a, w);
     }
 
-    fn lose_at_call(&mut self, w: u64) {
-        self.choice.lose_at_call(w);
-    }
-
-    fn lose_at_pause(&mut self, w: u64) {
-        self.choice.lose_at_pause(w);
+    fn lose(&mut self, loss: Loss, w: u64) {
+        self.choice.lose(loss, w);
     }
 }

@@ -19,7 +19,8 @@ impl AnyBank {
         })
     }
 
-    // A nested bank made from a word.
+    // A nested bank made from a word. It and the next differ in the path to the choice, which a function over both
+    // would take as an argument.
     pub fn nested(w: u64) -> AnyBank
         ensures { any_meaning result ≡ new_nested w }
     {

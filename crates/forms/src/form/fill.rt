@@ -9,18 +9,13 @@ use crate::form::Form;
 use crate::limits::{placed, row_ok};
 use crate::row::{Head, Row};
 
+// The row of the built-in form.
 static ROWS: [Row; 1] = [Row {
     kind: 10,
-    o: 0,
-    d: 0,
-    a: 0,
-    b: 0,
-    k: 0,
-    c: 0,
-    t: 0,
-    f: 0,
+    ..Row::NONE
 }];
 
+// Its head; the counts are written out, since a constant cannot change one element of an array.
 static HEAD: Head = Head {
     blocks: 1,
     params: 0,
@@ -45,6 +40,7 @@ impl<'r, 'h> Form<'r, 'h> {
 
     // Fills the form with lent rows and a lent head, or refuses them and leaves it. Either way its code
     // keeps the rules, as that of every form does.
+    #[tactic(auto, using(crate::proofs::Keeps::form_keeps))]
     pub fn fill(&mut self, rows: &'r [Row], head: &'h Head) -> Result<(), FormFault>
         ensures result { result ≡ filled rows.now head.now }
         ensures form { Holds result self.old self.new rows.entry head.entry }
@@ -58,29 +54,28 @@ impl<'r, 'h> Form<'r, 'h> {
     }
 }
 
+// Whether all numbers are below a limit.
 fn all_below(items: &[u8], limit: u8) -> bool
     ensures { result ≡ all_below limit items.now }
 {
-    for x in items {
-        if *x >= limit {
-            return false;
-        }
-    }
-    true
+    items.iter().all(|x| *x < limit)
 }
 
+// Whether each row keeps the rules, and the last one and no other is an ending. A `for`: it is proved by one line of
+// invariant, and a chain by `all` is left open by the check.
 fn block_ok(rows: &[Row], last: u8) -> bool
     ensures { result ≡ block_ok last rows.now }
 {
-    for i in 0..rows.len() {
-        let row = rows[i];
-        if !(row_ok(&row, last) & placed(&row, i + 1 == rows.len())) {
+    for (i, row) in rows.iter().enumerate() {
+        if !(row_ok(row, last) & placed(row, i + 1 == rows.len())) {
             return false;
         }
     }
     true
 }
 
+// Whether the rows of the counted lengths are there and keep the rules. They are cut at `used`, which the
+// limit of 512 rows needs anyway.
 fn counted_ok(rows: &[Row], counts: &[u8], last: u8) -> bool
     ensures { result ≡ rows_ok last counts.now rows.now }
 {
@@ -98,6 +93,7 @@ fn counted_ok(rows: &[Row], counts: &[u8], last: u8) -> bool
     true
 }
 
+// Whether a head keeps the rules.
 fn head_ok(head: &Head) -> bool
     ensures { result ≡ head_ok head.now }
 {

@@ -49,10 +49,9 @@ impl<'r, 'h> Form<'r, 'h> {
         requires { b ≤ self.now.head.now.blocks }
         ensures { result ≡ sum (take b self.now.head.now.counts) }
     {
-        let mut start = 0usize;
-        for i in 0..b as usize {
-            start += self.head.counts[i] as usize;
-        }
-        start
+        self.head.counts[..b as usize]
+            .iter()
+            .map(|count| *count as usize)
+            .sum()
     }
 }

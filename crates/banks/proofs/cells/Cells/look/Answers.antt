@@ -1,13 +1,9 @@
-use Rattle.std.proofs.Common.{ℕ, get_or, sym, ap, ◌∙◌, arith}
-use Rattle.std.proofs.lemmas.List.{get_or-take}
+use Rattle.std.proofs.Common.{◌≡◌, sym, ◌∙◌, rules}
 use Rattle.banks.specs.Words.{lowest}
-use Rattle.banks.specs.Tables.{take_past}
+use Rattle.banks.proofs.CellTables.{by_option, look_there, look_none}
 use Rattle.banks.proofs.cells.Cells.look.Goals as goal
 
-pub returns-then-a-self : goal.returns-then-a-self
-returns-then-a-self c =
-    c.low_bytes.ensures
-    ∙ ap (λ (n : ℕ). lowest (get_or c.args.self.now.words c.args.a 0) n) (sym (get_or-take c.args.self.now.count c.args.self.now.widths c.args.a 0 (omega arith)))
-
-pub returns-else-a-self : goal.returns-else-a-self
-returns-else-a-self c = rw (take_past c.args.self.now.count c.args.self.now.widths c.args.a (omega arith)) (omega arith)
+pub returns : goal.returns
+returns c = by_option c.cell.result _ _ c.map_or.ensures
+    (λ e p. p ∙ look_none c.args.self.now.count c.args.self.now.cells c.args.a (sym c.cell.ensures ∙ e))
+    (λ x e q. let r : c.map_or.result ≡ lowest x.word x.width = search rules in r ∙ look_there c.args.self.now.count c.args.self.now.cells c.args.a x (sym c.cell.ensures ∙ e))

@@ -1,10 +1,20 @@
-use Rattle.std.proofs.Common.{◌<◌, length, take, refl, arith, rules}
-use Rattle.std.proofs.lemmas.List.{length-take-le}
+use Rattle.std.proofs.Common.{◌<◌, length, take, sym, ap, ◌∙◌, subst, refl, arith, rules}
+use Rattle.std.proofs.Math.Seq.{map-set_same}
+use Rattle.std.proofs.lemmas.List.{length-take-le, length-map, map-set}
+use Rattle.banks.specs.Meanings.{by_place}
+use Rattle.banks.specs.Table.{Sound, widths_of, words_of}
 use Rattle.banks.specs.Tables.{same_table, words_set}
 use Rattle.banks.proofs.cells.Cells.put.Goals as goal
 
+pub invariant_of-self : goal.invariant_of-self
+invariant_of-self c = record { sound = subst (Sound c.args.self.now.count) (sym (map-set_same (λ x. x.width) c.args.self.now.cells c.args.a _ _ refl)) c.args.self.now.sound }
+
 pub returns-then-a-self : goal.returns-then-a-self
 returns-then-a-self c =
-    let inside : c.args.a < length c.args.self.now.words = search rules in
-    let cell : c.args.a < length (take c.args.self.now.count c.args.self.now.widths) = omega (arith, length-take-le c.args.self.now.count c.args.self.now.widths c.args.self.now.sound.1) in
-    same_table _ _ refl (words_set (take c.args.self.now.count c.args.self.now.widths) c.args.self.now.words c.args.a c.args.w inside cell)
+    let cells = c.args.self.now.cells in
+    let n = c.args.self.now.count in
+    let inside : c.args.a < length cells = search rules in
+    let word : c.args.a < length (words_of cells) = omega (arith, length-map cells (λ x. x.word)) in
+    let cell : c.args.a < length (take n (widths_of cells)) = omega (arith, length-take-le n (widths_of cells) c.args.self.now.sound.1) in
+    same_table _ _ (ap (take n) (map-set_same (λ x. x.width) cells c.args.a _ _ refl))
+    (ap by_place (map-set (λ x. x.word) cells c.args.a _) ∙ words_set (take n (widths_of cells)) (words_of cells) c.args.a c.args.w word cell)

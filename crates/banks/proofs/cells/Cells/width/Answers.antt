@@ -1,10 +1,8 @@
-use Rattle.std.proofs.Common.{sym, arith}
-use Rattle.std.proofs.lemmas.List.{get_or-take}
-use Rattle.banks.specs.Tables.{take_past}
+use Rattle.std.proofs.Common.{◌≡◌, sym, ◌∙◌, rules}
+use Rattle.banks.proofs.CellTables.{by_option, width_there, width_none}
 use Rattle.banks.proofs.cells.Cells.width.Goals as goal
 
-pub returns-then-a-self : goal.returns-then-a-self
-returns-then-a-self c = sym (get_or-take c.args.self.now.count c.args.self.now.widths c.args.a 0 (omega arith))
-
-pub returns-else-a-self : goal.returns-else-a-self
-returns-else-a-self c = sym (take_past c.args.self.now.count c.args.self.now.widths c.args.a (omega arith))
+pub returns : goal.returns
+returns c = by_option c.cell.result _ _ c.map_or.ensures
+    (λ e p. p ∙ width_none c.args.self.now.count c.args.self.now.cells c.args.a (sym c.cell.ensures ∙ e))
+    (λ x e q. let r : c.map_or.result ≡ x.width = search rules in r ∙ width_there c.args.self.now.count c.args.self.now.cells c.args.a x (sym c.cell.ensures ∙ e))

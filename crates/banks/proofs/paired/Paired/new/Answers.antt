@@ -7,5 +7,5 @@ use Rattle.banks.proofs.paired.Paired.new.Goals as goal
 
 pub returns : goal.returns
 returns c =
-    let lost : bytes_of c.lose_at_pause.new.self ≡ lost_cells 16 (by_place (replicate 16 0)) c.args.w = search rules in
+    let lost : bytes_of c.lose.new.self ≡ lost_cells 16 (by_place (replicate 16 0)) c.args.w = search rules in
     lost ∙ ap (λ (x : ℕ → ℕ). lost_cells 16 x c.args.w) (fun_ext (zeros 16))

@@ -1,21 +1,9 @@
-use Rattle.std.proofs.Common.{◌≡◌, ℕ, ◌+◌, ◌-◌, ◌≤◌, length, get_or, take, drop, ap, ◌∙◌, arith, rules}
-use Rattle.forms.proofs.Cuts.{block_there, block_is, no_block}
+use Rattle.std.proofs.Common.{◌≡◌, ℕ, ◌+◌, ◌-◌, get_or, take, drop, ap, ◌∙◌, arith}
+use Rattle.forms.proofs.Cuts.{block_is, no_block}
 use Rattle.forms.proofs.form.Form.block.Goals as goal
 
 pub returns-then-b-head : goal.returns-then-b-head
 returns-then-b-head c = no_block c.args.self.now.rows.now c.args.self.now.head.now c.args.self.now.sound c.args.b (omega arith)
-
-there : (c : goal.After-result-2-1) → c.rows_before-start.result + get_or c.args.self.now.head.now.counts c.args.b 0 ≤ length c.args.self.now.rows.now
-there c = omega (arith, block_there c.args.self.now.rows.now c.args.self.now.head.now c.args.self.now.sound c.args.b (omega arith))
-
-pub overflow_add-result : goal.overflow_add-result
-overflow_add-result c = let h = there c in omega arith
-
-pub offset_bounds-self-start : goal.offset_bounds-self-start
-offset_bounds-self-start c = let h = there c in omega arith
-
-pub slice_bounds-result-end-2 : goal.slice_bounds-result-end-2
-slice_bounds-result-end-2 c = let h = there c in search rules
 
 pub returns : goal.returns
 returns c =
