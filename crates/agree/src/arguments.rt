@@ -7,7 +7,10 @@ use texts::{PairsFault, Words, byte_value, name_of, number_value, push_pairs, wi
 
 // The next word, or what is missing. The three readers below stay apart: one function over the rule and the fault was
 // tried, and refused, since the fault borrows the word.
-pub fn next_word<'a>(words: &mut Words<'a>, what: &'static str) -> Result<&'a [u8], Fault<'a>> {
+pub(crate) fn next_word<'a>(
+    words: &mut Words<'a>,
+    what: &'static str,
+) -> Result<&'a [u8], Fault<'a>> {
     words.next().ok_or(Fault::Missing(what))
 }
 

@@ -25,12 +25,12 @@ impl<'r> Session<'r> {
     }
 
     // Where the run has its memory from.
-    pub fn heap(&self) -> Global {
+    pub(crate) fn heap(&self) -> Global {
         self.rt.alloc()
     }
 
     // Gives a name an object, in place of any that it had.
-    pub fn define(&mut self, name: &str, object: Object) -> Result<(), AllocError> {
+    pub(crate) fn define(&mut self, name: &str, object: Object) -> Result<(), AllocError> {
         let heap = self.heap();
         self.objects.define(heap, name, object)
     }

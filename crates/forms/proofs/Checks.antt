@@ -4,10 +4,6 @@ use Rattle.forms.specs.declared.row.Row.{Row}
 use Rattle.forms.specs.Code.{cut}
 use Rattle.forms.specs.Rules.{blocks_ok}
 
--- what stands past the end of a list of rows
-abbrev pub no_row : Row
-no_row = record { kind = 0; o = 0; d = 0; a = 0; b = 0; k = 0; c = 0; t = 0; f = 0 }
-
 -- what is left of the counts, after `used` rows: the rows are there, and the blocks keep the rules
 abbrev pub rest_ok : ℕ → ℕ → List ℕ → List Row → Bool
 rest_ok last used counts rows = leb (sum counts) (length rows - used) && blocks_ok last used (cut counts (drop used rows))
