@@ -8,7 +8,7 @@ use banks::{Bank, BankFault, Loss};
 use choices::{AnyBank, Change, FramedFault};
 use texts::{RefusalText, Words};
 
-// The bank of a name, lent to be changed; who only looks copies it out.
+// The bank of a name, lent to be changed.
 fn bank_named<'a, 'b>(
     objects: &'b mut Objects,
     name: &'a str,
@@ -20,23 +20,27 @@ fn bank_named<'a, 'b>(
     }
 }
 
+// Gives a name a bank. A bank is large, so it comes here itself: a `Result` around it would be one copy more.
+fn keep_bank<'a>(session: &mut Session, name: &'a str, bank: AnyBank) -> Result<(), Fault<'a>> {
+    session.define(name, Object::Bank(bank))?;
+    writeln!(session.out, "bank {name}: {} names", bank.names())?;
+    Ok(())
+}
+
 // Gives a name the bank that was made, or says why none was.
-fn keep_bank<'a>(
+fn keep_made<'a>(
     session: &mut Session,
     name: &'a str,
     made: Result<AnyBank, BankFault>,
 ) -> Result<(), Fault<'a>> {
     match made {
-        Ok(bank) => {
-            session.define(name, Object::Bank(bank))?;
-            writeln!(session.out, "bank {name}: {} names", bank.names())?;
-        }
+        Ok(bank) => keep_bank(session, name, bank),
         Err(fault) => {
             let refusal = RefusalText(fault.into());
             writeln!(session.out, "bank {name}: {refusal}")?;
+            Ok(())
         }
     }
-    Ok(())
 }
 
 // `bank NAME variables W..`: makes variables.
@@ -46,7 +50,7 @@ fn define_variables<'a>(
     words: Words<'a>,
 ) -> Result<(), Fault<'a>> {
     let widths = rest_widths(session.heap(), words)?;
-    keep_bank(session, name, AnyBank::variables(&widths))
+    keep_made(session, name, AnyBank::variables(&widths))
 }
 
 // `bank NAME frame BASE W..`: makes a frame over a copy of a bank.
@@ -55,16 +59,16 @@ fn define_frame<'a>(
     name: &'a str,
     mut words: Words<'a>,
 ) -> Result<(), Fault<'a>> {
+    let heap = session.heap();
     let base_name = next_name(&mut words)?;
-    let base = *bank_named(&mut session.objects, base_name)?;
-    let widths = rest_widths(session.heap(), words)?;
+    let base = bank_named(&mut session.objects, base_name)?;
+    let widths = rest_widths(heap, words)?;
     // a match: one fault is told and the run goes on, the other ends it, which `map_err` cannot say
-    let made = match base.framed(&widths) {
-        Ok(bank) => Ok(bank),
-        Err(FramedFault::Slots(fault)) => Err(fault),
-        Err(FramedFault::Layers) => return Err(Fault::TwoFrames(base_name)),
-    };
-    keep_bank(session, name, made)
+    match base.framed(&widths) {
+        Ok(bank) => keep_bank(session, name, bank),
+        Err(FramedFault::Slots(fault)) => keep_made(session, name, Err(fault)),
+        Err(FramedFault::Layers) => Err(Fault::TwoFrames(base_name)),
+    }
 }
 
 // `bank NAME KIND ..`: makes a bank. A match on the kind: each takes other words.
@@ -72,8 +76,8 @@ pub fn define_bank<'a>(session: &mut Session, mut words: Words<'a>) -> Result<()
     let name = next_name(&mut words)?;
     match next_word(&mut words, "a kind of bank")? {
         b"variables" => define_variables(session, name, words),
-        b"nested" => keep_bank(session, name, Ok(AnyBank::nested(last_number(words)?))),
-        b"paired" => keep_bank(session, name, Ok(AnyBank::paired(last_number(words)?))),
+        b"nested" => keep_bank(session, name, AnyBank::nested(last_number(words)?)),
+        b"paired" => keep_bank(session, name, AnyBank::paired(last_number(words)?)),
         b"frame" => define_frame(session, name, words),
         word => Err(Fault::NoKind(word)),
     }

@@ -1,14 +1,13 @@
 -- The bytes of words in cells.
-use Rattle.std.proofs.Common.{◌≡◌, ℕ, zero, suc, ◌+◌, ◌-◌, ◌*◌, ◌%◌, ◌<◌, ◌≤◌, true, false, List, ◌++◌, length, get_or, take, drop, replicate, w64, refl, sym, ap, ap₂, ◌∙◌, arith, nat_lt}
+use Rattle.std.proofs.Common.{◌≡◌, ℕ, zero, suc, ◌+◌, ◌-◌, ◌*◌, ◌%◌, ◌<◌, ◌≤◌, true, false, List, [], ◌∷◌, ◌++◌, length, get_or, take, drop, w64, refl, sym, ap, ap₂, ◌∙◌, arith, nat_lt}
 use Rattle.std.proofs.Math.Path.{fun_ext}
 use Rattle.std.proofs.lemmas.Bool.{cond-true, cond-false}
 use Rattle.std.proofs.lemmas.Bool.Decides.{nat_tests}
-use Rattle.std.proofs.lemmas.List.{get_or_append_left, get_or-append_right, get_or-take, get_or-drop, length-append, length-take, length-take-le, length-drop}
-use Rattle.std.specs.Int.{to_le_bytes, from_le_bytes}
+use Rattle.std.proofs.lemmas.List.{same_from_push, take_more, length_push, get_or_append_left, get_or-append_right, get_or-take, get_or-drop, length-append, length-take, length-take-le, length-drop}
+use Rattle.std.specs.Int.{to_le_bytes}
 use borrow.Rule.Slice.PartMut.{put_mid, mid_of}
 use Rattle.banks.specs.Meanings.{by_place}
 use Rattle.banks.specs.Paired.{first_cell, cells_of, among, number_in, written_in, lost_cells}
-use Rattle.banks.specs.Tables.{zeros}
 use Rattle.banks.specs.Words.{byte_of}
 use Rattle.banks.specs.Splits.{by_order}
 
@@ -38,35 +37,29 @@ number_moved x y s t (suc n) h = ap₂ (λ (p q : ℕ). p % 256 + 256 * q)
     (ap x (omega arith) ∙ h 0 (omega arith) ∙ ap y (omega arith))
     (number_moved x y (s + 1) (t + 1) n (λ i l. ap x (omega arith) ∙ h (suc i) (omega arith) ∙ ap y (omega arith)))
 
--- Cells of 0 behind others add nothing.
-number_zeros : (x : ℕ → ℕ) (s n : ℕ) → ((c : ℕ) → s ≤ c → x c ≡ 0) → number_in x s n ≡ 0
-number_zeros x s zero h = refl
-number_zeros x s (suc n) h = let first = h s (omega arith) in let rest = number_zeros x (s + 1) n (λ c l. h c (omega arith)) in omega (arith, first, rest)
+-- The last of the cells that are still to be read, and the number with it.
+module _ (cells old new : List ℕ) (x : ℕ) (e : old ≡ new ++ x ∷ []) (f : old ≡ take (length old) cells) where
+  pub last_long : length old ≡ length new + 1
+  last_long = ap length e ∙ length_push new x
 
-number_padded : (x : ℕ → ℕ) (s n m : ℕ) → n ≤ m → ((c : ℕ) → s + n ≤ c → x c ≡ 0) → number_in x s m ≡ number_in x s n
-number_padded x s zero m h z = number_zeros x s m (λ c l. z c (omega arith))
-number_padded x s (suc n) zero h z = absurd (omega arith)
-number_padded x s (suc n) (suc m) h z = ap (λ (q : ℕ). x s % 256 + 256 * q) (number_padded x (s + 1) n m (omega arith) (λ c l. z c (omega arith)))
+  pub last_there : length new < length cells
+  last_there = omega (arith, last_long, ap length f, length-take (length old) cells)
 
--- Eight bytes are read as the number that they hold.
-number_from : (l : List ℕ) → ((i : ℕ) → get_or l i 0 < 256) → from_le_bytes w64 l ≡ number_in (by_place l) 0 8
-number_from l h = omega (arith, h 0, h 1, h 2, h 3, h 4, h 5, h 6, h 7)
+  last_apart : (new ≡ take (length new) cells) × (x ≡ get_or cells (length new) 0)
+  last_apart = same_from_push new (take (length new) cells) x (get_or cells (length new) 0) (sym e ∙ f ∙ ap (λ n. take n cells) last_long ∙ take_more cells (length new) 0 last_there)
 
--- Bytes with zeros behind them are read as the number that they hold.
-pub number_read : (cells l : List ℕ) → l ≡ cells ++ drop (length cells) (replicate 8 0) → length cells ≤ 8 → ((i : ℕ) → get_or cells i 0 < 256) → from_le_bytes w64 l ≡ number_in (by_place cells) 0 (length cells)
-number_read cells l e few small = ap (from_le_bytes w64) e ∙ number_from _ bytes ∙ number_padded (by_place row) 0 (length cells) 8 few (λ c h. behind c (omega arith)) ∙ number_moved (by_place row) (by_place cells) 0 0 (length cells) (λ i h. front (0 + i) (omega arith))
-  where
-    row : List ℕ
-    row = cells ++ drop (length cells) (replicate 8 0)
+  pub last_front : new ≡ take (length new) cells
+  last_front = last_apart.0
 
-    front : (i : ℕ) → i < length cells → get_or (cells ++ drop (length cells) (replicate 8 0)) i 0 ≡ get_or cells i 0
-    front i h = get_or_append_left cells _ 0 i h
+  pub last_is : x ≡ get_or cells (length new) 0
+  last_is = last_apart.1
 
-    behind : (i : ℕ) → length cells ≤ i → get_or (cells ++ drop (length cells) (replicate 8 0)) i 0 ≡ 0
-    behind i h = get_or-append_right cells _ (length cells) i 0 refl h ∙ get_or-drop (length cells) (replicate 8 0) (i - length cells) 0 ∙ zeros 8 _
-
-    bytes : (i : ℕ) → get_or (cells ++ drop (length cells) (replicate 8 0)) i 0 < 256
-    bytes i = by_order i (length cells) (λ h t. omega (arith, front i h, small i)) (λ h t. omega (arith, behind i h))
+  pub last_read : (number : ℕ) → get_or cells (length new) 0 < 256 → number ≡ number_in (by_place cells) (length old) (length cells - length old) → number * 256 + x ≡ number_in (by_place cells) (length new) (length cells - length new)
+  last_read number small m =
+      let n : length cells - length new ≡ suc (length cells - (length new + 1)) = omega (arith, last_there) in
+      let step : number_in (by_place cells) (length new) (length cells - length new) ≡ get_or cells (length new) 0 % 256 + 256 * number_in (by_place cells) (length new + 1) (length cells - (length new + 1)) = ap (number_in (by_place cells) (length new)) n in
+      let at : number ≡ number_in (by_place cells) (length new + 1) (length cells - (length new + 1)) = m ∙ ap (λ (k : ℕ). number_in (by_place cells) k (length cells - k)) last_long in
+      omega (arith, step, at, last_is)
 
 -- A part of the cells holds what they hold there.
 pub number_part : (l : List ℕ) (s k n : ℕ) → k ≡ n → s + n ≤ length l → number_in (by_place (mid_of s k l)) 0 (length (mid_of s k l)) ≡ number_in (by_place l) s n

@@ -1,17 +1,13 @@
 -- What a table of cells answers, cell by cell.
-use Rattle.std.proofs.Common.{◌≡◌, ℕ, ◌<◌, ◌≤◌, List, map, length, get_or, take, Some, None, Option, refl, sym, ap, ap₂, ◌∙◌, arith}
+use Rattle.std.proofs.Common.{◌≡◌, ℕ, ◌<◌, List, map, take, Some, None, Option, refl, sym, ap, ap₂, ◌∙◌, arith}
 use Rattle.std.specs.Option.{MatchOption, option_map, unwrap_or}
 use Rattle.std.specs.List.{slice_get, slice_index}
-use Rattle.std.proofs.lemmas.List.{take-map, get_or-take, get_or_past, length-take, length-take-le, length-map}
-use Rattle.std.proofs.lemmas.Grind.{same_number_lists}
-use Rattle.std.proofs.Math.ListN.{get_or-map}
-use Rattle.std.proofs.Math.Path.{fun_ext}
+use Rattle.std.proofs.lemmas.List.{take-map, get_or-take, length-take}
 use Rattle.std.proofs.lemmas.Option.{unwrap_or-slice_get, get_or_from_slice_get, slice_get-map, slice_get_within}
 use Rattle.banks.specs.declared.cells.Cell.{Cell}
 use Rattle.banks.specs.Meanings.{by_place}
-use Rattle.banks.specs.Table.{widths_of, words_of, cell_look, no_words}
+use Rattle.banks.specs.Table.{widths_of, word_of, words_of, cell_look}
 use Rattle.banks.specs.Words.{lowest}
-use Rattle.banks.specs.Splits.{by_order}
 
 -- A number of a cell that is there, and 0 where there is none.
 module _ (f : Cell → ℕ) (cells : List Cell) (a : ℕ) where
@@ -32,8 +28,8 @@ module _ (n : ℕ) (cells : List Cell) (a : ℕ) where
   pub width_none : slice_get (take n cells) a ≡ None → 0 ≡ slice_index (take n (widths_of cells)) a
   width_none e = number_none (λ c. c.width) (take n cells) a e ∙ first (λ c. c.width)
 
-  pub look_there : (x : Cell) → slice_get (take n cells) a ≡ Some x → lowest x.word x.width ≡ cell_look (take n (widths_of cells)) (by_place (words_of cells)) a
-  look_there x e = ap₂ (λ w k. lowest w k) (number_there (λ c. c.word) (take n cells) a x e ∙ first (λ c. c.word) ∙ get_or-take n (words_of cells) a 0 inside) (width_there x e)
+  pub look_there : (x : Cell) → slice_get (take n cells) a ≡ Some x → lowest (word_of x) x.width ≡ cell_look (take n (widths_of cells)) (by_place (words_of cells)) a
+  look_there x e = ap₂ (λ w k. lowest w k) (number_there word_of (take n cells) a x e ∙ first word_of ∙ get_or-take n (words_of cells) a 0 inside) (width_there x e)
     where
       inside : a < n
       inside = omega (arith, slice_get_within (take n cells) a x e, length-take n cells)
@@ -45,19 +41,3 @@ module _ (n : ℕ) (cells : List Cell) (a : ℕ) where
 pub by_option : {X R : Type 0} (o : Option X) (P : Type 0) (Q : X → Type 0) → MatchOption o P Q → (o ≡ None → P → R) → ((x : X) → o ≡ Some x → Q x → R) → R
 by_option None P Q m f g = f refl m
 by_option (Some x) P Q m f g = g x refl m
-
--- A row of 64 cells, each of the declared width, or of none, with the word 0.
-abbrev pub NewCell : List ℕ → ℕ → Cell → Type 0
-NewCell ws a cell = (cell.width ≡ get_or ws a 0) × (cell.word ≡ 0)
-
-module _ (ws : List ℕ) (cells : List Cell) (long : length cells ≡ 64) (each : (a : ℕ) → a < 64 → NewCell ws a (get_or cells a (record { width = 0; word = 0 }))) where
-  pub new_widths : length ws ≤ 64 → take (length ws) (widths_of cells) ≡ ws
-  new_widths few = same_number_lists (take (length ws) (widths_of cells)) ws
-      (length-take-le (length ws) (widths_of cells) (omega (arith, length-map cells (λ (c : Cell). c.width))))
-      (λ k l. let h : k < length ws = omega (arith, length-take (length ws) (widths_of cells)) in
-      get_or-take (length ws) (widths_of cells) k 0 h ∙ get_or-map (λ (c : Cell). c.width) cells k (record { width = 0; word = 0 }) ∙ (each k (omega arith)).0)
-
-  pub new_words : by_place (words_of cells) ≡ no_words
-  new_words = fun_ext (λ k. by_order k 64
-      (λ l t. get_or-map (λ (c : Cell). c.word) cells k (record { width = 0; word = 0 }) ∙ (each k l).1)
-      (λ l t. get_or_past (words_of cells) k 0 (omega (arith, length-map cells (λ (c : Cell). c.word)))))

@@ -1,5 +1,6 @@
 -- A table of cells: variables are one, and so are the slots of a frame.
 use Rattle.std.specs.Prelude.{◌≡◌, ℕ, ◌≤◌, Bool, true, cond, ◌&&◌, List, length, map, take, ◌==◌, nat_le, nat_lt, slice_index}
+use Rattle.std.specs.Int.{from_le_bytes, w64}
 use Rattle.std.specs.List.{list_all}
 use Rattle.banks.specs.declared.cells.Cell.{Cell}
 use Rattle.banks.specs.Kind.{is_width}
@@ -9,9 +10,13 @@ use Rattle.banks.specs.Words.{lowest}
 abbrev pub widths_of : List Cell → List ℕ
 widths_of cells = map (λ c. c.width) cells
 
+-- The word of a cell, whose bytes stand lowest first.
+abbrev pub word_of : Cell → ℕ
+word_of cell = from_le_bytes w64 cell.bytes
+
 -- Their words.
 abbrev pub words_of : List Cell → List ℕ
-words_of cells = map (λ c. c.word) cells
+words_of cells = map word_of cells
 
 -- All numbers of a list are widths.
 abbrev pub all_widths : List ℕ → Bool

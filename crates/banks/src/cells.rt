@@ -3,11 +3,12 @@ ghost use Rattle.banks.specs.Table.{Sound, widths_of};
 
 mod parts;
 
-// A cell: its width, and a word, of which it holds the lowest bytes.
+// A cell: its width, and the bytes of a word, lowest first, of which it holds as many as its width. Bytes and no u64:
+// a cell then has nine bytes, and seven of sixteen would be lost to alignment in each of 64 cells of every bank.
 #[derive(Clone, Copy)]
 struct Cell {
     width: u8,
-    word: u64,
+    bytes: [u8; 8],
 }
 
 // A table of 1 to 64 cells. The count stands beside a row of 64: a bank is Copy, which a vector is not.

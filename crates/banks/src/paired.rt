@@ -44,9 +44,11 @@ fn number_in(cells: &[u8]) -> u64
     requires { length cells.now ≤ 8 }
     ensures { result ≡ number_in (by_place cells.now) 0 (length cells.now) }
 {
-    let mut bytes = [0; 8];
-    bytes[..cells.len()].copy_from_slice(cells);
-    u64::from_le_bytes(bytes)
+    let mut number: u64 = 0;
+    for cell in cells.iter().rev() {
+        number = number * 256 + u64::from(*cell);
+    }
+    number
 }
 
 // How many cells a loss takes, the first of them. That a call takes half, as of Nested's units, is chance: each kind

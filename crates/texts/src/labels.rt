@@ -2,7 +2,7 @@
 ghost use Rattle.std.specs.Prelude.{◌≡◌, Some, map};
 ghost use Rattle.forms.specs.View.{code};
 ghost use Rattle.texts.specs.Counts.{counts_of};
-ghost use Rattle.texts.specs.Labels.{label, refusal_text, counts_text, row_text};
+ghost use Rattle.texts.specs.Labels.{label, operations, kinds, refusal_text, counts_text, row_text};
 
 use forms::{Form, Row};
 use numbers::Refusal;
@@ -34,6 +34,20 @@ fn label(names: &[&'static str], n: u8) -> &'static str
     ensures { result.now ≡ label (map (λ s. s.now) names.now) n }
 {
     names.get(usize::from(n)).copied().unwrap_or("?")
+}
+
+// The name of an operation.
+fn operation_name(operation: u8) -> &'static str
+    ensures { result.now ≡ label operations operation }
+{
+    label(&OPERATIONS, operation)
+}
+
+// The name of a kind of rows.
+fn kind_name(kind: u8) -> &'static str
+    ensures { result.now ≡ label kinds kind }
+{
+    label(&KINDS, kind)
 }
 
 // A refusal as it is printed.
@@ -77,11 +91,11 @@ impl fmt::Display for RowText {
             t,
             f: otherwise,
         } = self.0;
-        let name = label(&KINDS, kind);
+        let name = kind_name(kind);
         match kind {
             0 | 3 | 4 => write!(f, "{name} {d} {a}"),
             1 => write!(f, "{name} {d} 0x{c:x}"),
-            2 => write!(f, "{name} {} {d} {a} {b}", label(&OPERATIONS, o)),
+            2 => write!(f, "{name} {} {d} {a} {b}", operation_name(o)),
             5 => write!(f, "{name} {a} {b}"),
             6 => write!(f, "{name} {k} {d} {a}"),
             7 | 9 => write!(f, "{name} {t}"),

@@ -9,7 +9,6 @@ ghost use Rattle.std.specs.Result.{result_err};
 use crate::cells::{Cell, Cells};
 use crate::fault::BankFault;
 use crate::words::low_bytes;
-use std::array;
 
 // Whether a cell can have so many bytes.
 fn is_width(n: u8) -> bool
@@ -25,17 +24,22 @@ fn all_widths(widths: &[u8]) -> bool
     widths.iter().all(|w| is_width(*w))
 }
 
-// A row of 64 cells that begins with the given widths; every word is 0.
+// A row of 64 cells that begins with the given widths; every word is 0. A `for` over the widths: `array::from_fn` would
+// write every cell by itself, and was slower.
 fn spread(widths: &[u8]) -> [Cell; 64]
     requires { length widths.now ≤ 64 }
     ensures widths { take (length widths.now) (widths_of result) ≡ widths.now }
     ensures words { by_place (words_of result) ≡ no_words }
     ensures len { length (widths_of result) ≡ 64 }
 {
-    array::from_fn(|a| Cell {
-        width: widths.get(a).copied().unwrap_or(0),
-        word: 0,
-    })
+    let mut cells = [Cell {
+        width: 0,
+        bytes: [0; 8],
+    }; 64];
+    for (a, width) in widths.iter().enumerate() {
+        cells[a].width = *width;
+    }
+    cells
 }
 
 impl Cells {
@@ -83,8 +87,10 @@ impl Cells {
     pub(crate) fn look(&self, a: u8) -> u64
         ensures { result ≡ cell_look (table_of self.now).widths (table_of self.now).words a }
     {
-        self.cell(a)
-            .map_or(0, |cell| low_bytes(cell.word, cell.width))
+        self.cell(a).map_or(
+            0,
+            |cell| low_bytes(u64::from_le_bytes(cell.bytes), cell.width),
+        )
     }
 
     // Puts a word into a cell; does nothing where there is none.
@@ -92,7 +98,7 @@ impl Cells {
         ensures { table_of self.new ≡ table_put (table_of self.old) a w }
     {
         if a < self.count {
-            self.cells[a as usize].word = w;
+            self.cells[a as usize].bytes = w.to_le_bytes();
         }
     }
 }

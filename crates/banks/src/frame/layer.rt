@@ -41,11 +41,8 @@ impl<B: Bank> Frame<B> {
     fn slot(&self, a: u8) -> Option<u8>
         ensures { result ≡ slot_at (B.Bank.kind.describe (B.Bank.meaning self.now.below)).names a }
     {
-        if a < 64 {
-            a.checked_sub(self.below.names())
-        } else {
-            None
-        }
+        let n = self.below.names();
+        if n <= a && a < 64 { Some(a - n) } else { None }
     }
 }
 

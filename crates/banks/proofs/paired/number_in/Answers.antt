@@ -1,6 +1,53 @@
-use Rattle.std.proofs.Common.{◌∙◌, ◌++◌, drop, length, replicate, ap, arith}
-use Rattle.banks.proofs.CellBytes.{number_read}
+use Rattle.std.proofs.Common.{◌≡◌, ℕ, ◌+◌, ◌*◌, ◌-◌, length, ap, ◌∙◌, sym, arith, rules}
+use Rattle.std.proofs.lemmas.List.{take_all}
+use Rattle.banks.specs.Meanings.{by_place}
+use Rattle.banks.specs.Paired.{number_in}
+use Rattle.banks.specs.Pairs.{number_small}
+use Rattle.banks.proofs.CellBytes.{last_long, last_front, last_is, last_read}
 use Rattle.banks.proofs.paired.number_in.Goals as goal
 
+pub loop-cell-init : goal.loop-cell-init
+loop-cell-init c =
+    let cells = c.args.cells.now in
+    let left = length c.into_iter-cell-iterator.result.iter.rest.now in
+    let whole : c.into_iter-cell-iterator.result.iter.rest.now ≡ cells = search rules in
+    let none : 0 ≡ length cells - left = omega (arith, ap length whole) in
+    record {
+      front = whole ∙ sym (take_all left cells (omega (arith, ap length whole)));
+      number = ap (number_in (by_place cells) left) none;
+    }
+
+pub loop-cell-preserved : goal.loop-cell-preserved
+loop-cell-preserved c =
+    let cells = c.args.cells.now in
+    let old = c.loop-cell.cell-iterator.iter.rest.now in
+    let new = c.next.new.self.iter.rest.now in
+    record {
+      front = last_front cells old new c.in-Some.cell.now c.in-Some.ensures.steps c.loop-cell.invariant.front;
+      number = ap (λ (b : ℕ). c.loop-cell.number * 256 + b) c.from.ensures
+          ∙ last_read cells old new c.in-Some.cell.now c.in-Some.ensures.steps c.loop-cell.invariant.front c.loop-cell.number (omega (arith, c.type_inv.cells (length new))) c.loop-cell.invariant.number;
+    }
+
+pub overflow_mul-number : goal.overflow_mul-number
+overflow_mul-number c =
+    let cells = c.args.cells.now in
+    let old = c.loop-cell.cell-iterator.iter.rest.now in
+    let long = last_long cells old c.next.new.self.iter.rest.now c.in-Some.cell.now c.in-Some.ensures.steps c.loop-cell.invariant.front in
+    let small = number_small (by_place cells) (length old) (length cells - length old) (omega (arith, long)) in
+    omega (arith, small, c.loop-cell.invariant.number)
+
+pub overflow_add-number : goal.overflow_add-number
+overflow_add-number c =
+    let cells = c.args.cells.now in
+    let old = c.loop-cell.cell-iterator.iter.rest.now in
+    let new = c.next.new.self.iter.rest.now in
+    let long = last_long cells old new c.in-Some.cell.now c.in-Some.ensures.steps c.loop-cell.invariant.front in
+    let is = last_is cells old new c.in-Some.cell.now c.in-Some.ensures.steps c.loop-cell.invariant.front in
+    let small = number_small (by_place cells) (length old) (length cells - length old) (omega (arith, long)) in
+    omega (arith, small, is, c.from.ensures, c.type_inv.cells (length new), c.loop-cell.invariant.number)
+
 pub returns : goal.returns
-returns c = c.from_le_bytes.ensures ∙ number_read c.args.cells.now _ (ap (λ l. l ++ drop (length c.args.cells.now) (replicate 8 0)) c.copy_from_slice.ensures.after) c.requires (λ i. omega (arith, c.type_inv.cells i))
+returns c =
+    let cells = c.args.cells.now in
+    let all : length cells - 0 ≡ length cells = omega arith in
+    c.loop-cell.invariant.number ∙ ap (λ (k : ℕ). number_in (by_place cells) k (length cells - k)) c.in-None.ensures.steps.0 ∙ ap (number_in (by_place cells) 0) all
