@@ -27,6 +27,13 @@ fn keep_bank<'a>(session: &mut Session, name: &'a str, bank: AnyBank) -> Result<
     Ok(())
 }
 
+// Says why no bank was made.
+fn tell_fault<'a>(session: &mut Session, name: &'a str, fault: BankFault) -> Result<(), Fault<'a>> {
+    let refusal = RefusalText(fault.into());
+    writeln!(session.out, "bank {name}: {refusal}")?;
+    Ok(())
+}
+
 // Gives a name the bank that was made, or says why none was.
 fn keep_made<'a>(
     session: &mut Session,
@@ -35,11 +42,7 @@ fn keep_made<'a>(
 ) -> Result<(), Fault<'a>> {
     match made {
         Ok(bank) => keep_bank(session, name, bank),
-        Err(fault) => {
-            let refusal = RefusalText(fault.into());
-            writeln!(session.out, "bank {name}: {refusal}")?;
-            Ok(())
-        }
+        Err(fault) => tell_fault(session, name, fault),
     }
 }
 
@@ -66,7 +69,7 @@ fn define_frame<'a>(
     // a match: one fault is told and the run goes on, the other ends it, which `map_err` cannot say
     match base.framed(&widths) {
         Ok(bank) => keep_bank(session, name, bank),
-        Err(FramedFault::Slots(fault)) => keep_made(session, name, Err(fault)),
+        Err(FramedFault::Slots(fault)) => tell_fault(session, name, fault),
         Err(FramedFault::Layers) => Err(Fault::TwoFrames(base_name)),
     }
 }
