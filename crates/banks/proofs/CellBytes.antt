@@ -1,5 +1,5 @@
 -- The bytes of words in cells.
-use Rattle.std.proofs.Common.{◌≡◌, ℕ, zero, suc, ◌+◌, ◌-◌, ◌*◌, ◌%◌, ◌<◌, ◌≤◌, true, false, List, [], ◌∷◌, ◌++◌, length, get_or, take, drop, w64, refl, sym, ap, ap₂, ◌∙◌, arith, nat_lt}
+use Rattle.std.proofs.Common.{◌≡◌, ℕ, zero, suc, ◌+◌, ◌-◌, ◌*◌, ◌%◌, ◌^◌, ◌<◌, ◌≤◌, true, false, List, [], ◌∷◌, ◌++◌, length, get_or, take, drop, w64, refl, sym, ap, ap₂, ◌∙◌, arith, nat_lt}
 use Rattle.std.proofs.Math.Path.{fun_ext}
 use Rattle.std.proofs.lemmas.Bool.{cond-true, cond-false}
 use Rattle.std.proofs.lemmas.Bool.Decides.{nat_tests}
@@ -8,6 +8,7 @@ use Rattle.std.specs.Int.{to_le_bytes}
 use borrow.Rule.Slice.PartMut.{put_mid, mid_of}
 use Rattle.banks.specs.Meanings.{by_place}
 use Rattle.banks.specs.Paired.{first_cell, cells_of, among, number_in, written_in, lost_cells}
+use Rattle.banks.specs.Pairs.{number_small}
 use Rattle.banks.specs.Words.{byte_of}
 use Rattle.banks.specs.Splits.{by_order}
 
@@ -53,6 +54,9 @@ module _ (cells old new : List ℕ) (x : ℕ) (e : old ≡ new ++ x ∷ []) (f :
 
   pub last_is : x ≡ get_or cells (length new) 0
   last_is = last_apart.1
+
+  pub last_small : (number : ℕ) → length cells ≤ 8 → number ≡ number_in (by_place cells) (length old) (length cells - length old) → number < 2 ^ 56
+  last_small number few m = omega (arith, m, number_small (by_place cells) (length old) (length cells - length old) (omega (arith, last_long, few)))
 
   pub last_read : (number : ℕ) → get_or cells (length new) 0 < 256 → number ≡ number_in (by_place cells) (length old) (length cells - length old) → number * 256 + x ≡ number_in (by_place cells) (length new) (length cells - length new)
   last_read number small m =

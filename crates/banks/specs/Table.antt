@@ -14,7 +14,7 @@ widths_of cells = map (λ c. c.width) cells
 abbrev pub word_of : Cell → ℕ
 word_of cell = from_le_bytes w64 cell.bytes
 
--- Their words.
+-- The words of cells.
 abbrev pub words_of : List Cell → List ℕ
 words_of cells = map word_of cells
 

@@ -2,8 +2,7 @@ use Rattle.std.proofs.Common.{◌≡◌, ℕ, ◌+◌, ◌*◌, ◌-◌, length,
 use Rattle.std.proofs.lemmas.List.{take_all}
 use Rattle.banks.specs.Meanings.{by_place}
 use Rattle.banks.specs.Paired.{number_in}
-use Rattle.banks.specs.Pairs.{number_small}
-use Rattle.banks.proofs.CellBytes.{last_long, last_front, last_is, last_read}
+use Rattle.banks.proofs.CellBytes.{last_front, last_is, last_small, last_read}
 use Rattle.banks.proofs.paired.number_in.Goals as goal
 
 pub loop-cell-init : goal.loop-cell-init
@@ -30,21 +29,18 @@ loop-cell-preserved c =
 
 pub overflow_mul-number : goal.overflow_mul-number
 overflow_mul-number c =
-    let cells = c.args.cells.now in
     let old = c.loop-cell.cell-iterator.iter.rest.now in
-    let long = last_long cells old c.next.new.self.iter.rest.now c.in-Some.cell.now c.in-Some.ensures.steps c.loop-cell.invariant.front in
-    let small = number_small (by_place cells) (length old) (length cells - length old) (omega (arith, long)) in
-    omega (arith, small, c.loop-cell.invariant.number)
+    let new = c.next.new.self.iter.rest.now in
+    omega (arith, last_small c.args.cells.now old new c.in-Some.cell.now c.in-Some.ensures.steps c.loop-cell.invariant.front c.loop-cell.number c.requires c.loop-cell.invariant.number)
 
 pub overflow_add-number : goal.overflow_add-number
 overflow_add-number c =
     let cells = c.args.cells.now in
     let old = c.loop-cell.cell-iterator.iter.rest.now in
     let new = c.next.new.self.iter.rest.now in
-    let long = last_long cells old new c.in-Some.cell.now c.in-Some.ensures.steps c.loop-cell.invariant.front in
+    let small = last_small cells old new c.in-Some.cell.now c.in-Some.ensures.steps c.loop-cell.invariant.front c.loop-cell.number c.requires c.loop-cell.invariant.number in
     let is = last_is cells old new c.in-Some.cell.now c.in-Some.ensures.steps c.loop-cell.invariant.front in
-    let small = number_small (by_place cells) (length old) (length cells - length old) (omega (arith, long)) in
-    omega (arith, small, is, c.from.ensures, c.type_inv.cells (length new), c.loop-cell.invariant.number)
+    omega (arith, small, is, c.from.ensures, c.type_inv.cells (length new))
 
 pub returns : goal.returns
 returns c =
